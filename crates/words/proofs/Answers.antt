@@ -1,0 +1,88 @@
+-- The laws of answers: what number 0 says of each check, and how a refusal and a success meet the promise of a call that writes bytes.
+-- Assumes nothing.
+use mathlib.Core.Path.{_≡_, refl, sym, ap, _∙_}
+use mathlib.Core.Bool.{Bool, true, false}
+use mathlib.Core.List.{List, [], _∷_}
+use Prim.Native.Nat.{ℕ, zero, suc, _<_, _≤_}
+use native.Mathlib.Nat.{suc-ne-zero}
+use lib.Dec.{ltb}
+use lib.ListN.{length, getD}
+use borrow.Author.Tests.{lt-ltb, le-ltb}
+use Rattle.words.specs.Answers.{_when_, lowest, unless, written, numbered, overwrite, Wrote}
+use Rattle.words.specs.declared.Written.{Written}
+
+-- nothing was refused: every check passed
+pub all-passed : (ns : List ℕ) → lowest ns ≡ 0 → (k : ℕ) → getD ns k 0 ≡ 0
+all-passed [] e k = refl
+all-passed (zero ∷ ns) e zero = refl
+all-passed (zero ∷ ns) e (suc k) = all-passed ns e k
+all-passed (suc n ∷ ns) e k = absurd (suc-ne-zero n e)
+
+-- a check whose number is not given did not apply
+pub not-given : (n : ℕ) (b : Bool) → suc n when b ≡ 0 → b ≡ false
+not-given n true e = absurd (suc-ne-zero n e)
+not-given n false e = refl
+
+-- the first number is given where there is one
+pub first-given : (n : ℕ) {k : ℕ} (ns : List ℕ) → n ≡ k → (n ≡ 0 → ⊥) → n ≡ lowest (k ∷ ns)
+first-given n {k = zero} ns e h = absurd (h e)
+first-given n {k = suc k} ns e h = e
+
+pub last-given : (n : ℕ) → n ≡ lowest (n ∷ [])
+last-given zero = refl
+last-given (suc n) = refl
+
+-- checks that end with the room: n is the lowest of those before
+pub before-room : (n room size : ℕ) {k : ℕ} → n ≡ k → (n ≡ 0 → ⊥) → n ≡ lowest (k ∷ 11 when ltb room size ∷ [])
+before-room n room size e h = first-given n (11 when ltb room size ∷ []) e h
+
+pub no-room : (n room size : ℕ) → n ≡ 0 → room < size → 11 ≡ lowest (n ∷ 11 when ltb room size ∷ [])
+no-room zero room size e h = rw (lt-ltb room size h)
+no-room (suc n) room size e h = absurd (suc-ne-zero n e)
+
+pub room-left : (n room size : ℕ) → n ≡ 0 → size ≤ room → lowest (n ∷ 11 when ltb room size ∷ []) ≡ 0
+room-left zero room size e h = rw (le-ltb room size h)
+room-left (suc n) room size e h = absurd (suc-ne-zero n e)
+
+pub when-done : {A : Type 0} (n : ℕ) (a b : A) → n ≡ 0 → unless n a b ≡ a
+when-done zero a b e = refl
+when-done (suc n) a b e = absurd (suc-ne-zero n e)
+
+pub when-refused : {A : Type 0} (n : ℕ) (a b : A) → (n ≡ 0 → ⊥) → unless n a b ≡ b
+when-refused zero a b h = absurd (h refl)
+when-refused (suc n) a b h = refl
+
+pub either-way : {A : Type 0} (n : ℕ) (a : A) → unless n a a ≡ a
+either-way zero a = refl
+either-way (suc n) a = refl
+
+-- where a call is refused, what it would have written does not count
+pub refused-written : (n len : ℕ) → (n ≡ 0 → ⊥) → written n 0 ≡ written n len
+refused-written zero len h = absurd (h refl)
+refused-written (suc n) len h = refl
+
+-- a call that computes a number: refused, and done
+pub refused-number : (n : ℕ) {k : ℕ} (value : ℕ) → n ≡ k → (n ≡ 0 → ⊥) → numbered n 0 ≡ numbered k value
+refused-number n {k = zero} value e h = absurd (h e)
+refused-number n {k = suc k} value e h = ap (λ (i : ℕ). numbered i 0) e ∙ refl
+
+pub given-number : {k : ℕ} (r value : ℕ) → k ≡ 0 → r ≡ value → numbered 0 r ≡ numbered k value
+given-number {k = zero} r value z e = ap (λ (i : ℕ). numbered 0 i) e
+given-number {k = suc k} r value z e = absurd (suc-ne-zero k z)
+
+-- the two ways to meet the promise: k is the number that is due
+module _ {k : ℕ} {bytes before after : List ℕ} {r : Written} where
+  pub refuse : (n : ℕ) → n ≡ k → (n ≡ 0 → ⊥) → r ≡ written n 0 → after ≡ before → Wrote k bytes before r after
+  refuse n e h a same =
+      let due : k ≡ 0 → ⊥ = λ z. h (e ∙ z) in
+      record {
+        answer = a ∙ ap (λ (i : ℕ). written i 0) e ∙ refused-written k (length bytes) due;
+        lent = same ∙ sym (when-refused k (overwrite before bytes) before due);
+      }
+
+  pub done : k ≡ 0 → r ≡ written 0 (length bytes) → after ≡ overwrite before bytes → Wrote k bytes before r after
+  done e a out =
+      record {
+        answer = a ∙ ap (λ (i : ℕ). written i (length bytes)) (sym e);
+        lent = out ∙ sym (when-done k (overwrite before bytes) before e);
+      }

@@ -1,0 +1,41 @@
+-- What a call answers, and what it leaves in lent bytes.
+-- Assumes nothing.
+use Prim.Native.Nat.{ℕ, zero, suc}
+use mathlib.Core.Path.{_≡_}
+use mathlib.Core.Bool.{Bool, cond}
+use mathlib.Core.List.{List, [], _∷_, _++_}
+use lib.ListN.{length, drop}
+use Rattle.words.specs.declared.Written.{Written}
+use Rattle.words.specs.declared.Number.{Number}
+
+-- The number "given exactly when" the test holds.
+infix 80 _when_
+abbrev pub _when_ : ℕ → Bool → ℕ
+n when b = cond b n 0
+
+-- "Where several apply, the lowest number is given": a call's checks stand in the order of their numbers, and the first that applies is answered.
+abbrev pub lowest : List ℕ → ℕ
+lowest [] = 0
+lowest (zero ∷ ns) = lowest ns
+lowest (suc n ∷ ns) = suc n
+
+-- One thing where a call is not refused, another where it is.
+abbrev pub unless : {A : Type 0} → ℕ → A → A → A
+unless zero done refused = done
+unless (suc n) done refused = refused
+
+-- "A refusal returns its number, all else returned 0."
+abbrev pub written : ℕ → ℕ → Written
+written n len = record { refusal = n; written = unless n len 0 }
+
+abbrev pub numbered : ℕ → ℕ → Number
+numbered n value = record { refusal = n; value = unless n value 0 }
+
+-- "On success, bytes after the written length are untouched."
+abbrev pub overwrite : List ℕ → List ℕ → List ℕ
+overwrite before bytes = bytes ++ drop (length bytes) before
+
+-- The promise of a call that writes bytes: its answer, and the lent bytes as it leaves them, "untouched" by a refusal.
+pub record Wrote (refusal : ℕ) (bytes before : List ℕ) (r : Written) (after : List ℕ) : Type 0 where
+  pub answer : r ≡ written refusal (length bytes)
+  pub lent : after ≡ unless refusal (overwrite before bytes) before
