@@ -1,0 +1,102 @@
+use mathlib.Core.Path.{_≡_, ap, _∙_}
+use Prim.Native.Nat.{_+_, _<_}
+use native.Mathlib.Omega.{arith}
+use lib.Pow.{shr-le}
+use Rattle.words.specs.Bytes.{bit}
+use Rattle.mapentry.specs.Entry.{entryWord}
+use Rattle.mapentry.specs.declared.Places.{Places}
+use Rattle.mapentry.proofs.Laws.{fitting, tile-small, palette-small, word-small}
+use Rattle.mapentry.proofs.Links.{summed, summed-right}
+use borrow.Author.Needs.{needs}
+use Rattle.mapentry.proofs.entry_word.Statement.{statement}
+use Rattle.mapentry.proofs.entry_word.Tie as tie
+
+-- the sum is the entry's word, and so below 65,536 at every step
+total : (c : tie.After-up5) → c .before .before .before .before .before .before .before .before .before .low .result + c .before .before .before .before .before .before .before .up .result + c .before .before .before .before .before .before .up2 .result + c .before .before .before .before .up3 .result + c .before .before .up4 .result + c .up5 .result ≡ entryWord (c .before .before .before .before .before .before .before .before .before .before .before .args .m .0) (c .before .before .before .before .before .before .before .before .before .before .before .args .e)
+total c =
+    let e = c .before .before .before .before .before .before .before .before .before .before .before .args .e in
+    let m = c .before .before .before .before .before .before .before .before .before .before .before .args .m .0 in
+    let f = fitting m e (c .before .before .before .before .before .before .before .before .before .before .before .pre .fits) in
+    rw (c .before .before .before .before .before .before .before .before .before .low .ensures, c .before .before .before .before .before .before .before .up .ensures, c .before .before .before .before .before .before .before .before .down .ensures, c .before .before .before .before .before .before .up2 .ensures, c .before .before .before .before .up3 .ensures, c .before .before .before .before .before .flag .ensures .0, c .before .before .up4 .ensures, c .before .before .before .flag2 .ensures .0, c .up5 .ensures, c .before .flag3 .ensures .0)
+    (ap (λ (p : Places). summed p (e .tile) (e .palette) (bit (e .«flip_h»)) (bit (e .«flip_v»)) (bit (e .priority))) (c .before .before .before .before .before .before .before .before .before .before .places-of .ensures .0)
+    ∙ summed-right m (c .before .before .before .before .before .before .before .before .before .before .before .pre .mode) (e .tile) (e .palette) (bit (e .«flip_h»)) (bit (e .«flip_v»)) (bit (e .priority)) (f .tile) (f .palette) (f .h) (f .v) (f .priority))
+
+word-fits : (c : tie.After-up5) → entryWord (c .before .before .before .before .before .before .before .before .before .before .before .args .m .0) (c .before .before .before .before .before .before .before .before .before .before .before .args .e) < 65536
+word-fits c = word-small (c .before .before .before .before .before .before .before .before .before .before .before .args .m .0) (c .before .before .before .before .before .before .before .before .before .before .before .pre .mode) (c .before .before .before .before .before .before .before .before .before .before .before .args .e)
+
+places-of-requires : tie.Need-places-of-requires
+places-of-requires c κs = search needs
+
+low-requires : tie.Need-low-requires
+low-requires c κs = search needs
+
+down-requires : tie.Need-down-requires
+down-requires c κs = search needs
+
+up-requires : tie.Need-up-requires
+up-requires c κs =
+    let near = c .before .before .places-of .ensures .1 in
+    (omega (arith, c .down .ensures, shr-le (c .before .before .before .args .e .tile) (c .before .before .places-of .result .low), tile-small _ _ (c .before .before .before .pre)), near .high)
+
+up-requires-2 : tie.Need-up-requires-2
+up-requires-2 c κs =
+    let near = c .before .before .before .places-of .ensures .1 in
+    (omega (arith, palette-small _ _ (c .before .before .before .before .pre)), near .palette)
+
+flag-requires : tie.Need-flag-requires
+flag-requires c κs = search needs
+
+up-requires-3 : tie.Need-up-requires-3
+up-requires-3 c κs = search needs
+
+flag-requires-2 : tie.Need-flag-requires-2
+flag-requires-2 c κs = search needs
+
+up-requires-4 : tie.Need-up-requires-4
+up-requires-4 c κs = search needs
+
+flag-requires-3 : tie.Need-flag-requires-3
+flag-requires-3 c κs = search needs
+
+up-requires-5 : tie.Need-up-requires-5
+up-requires-5 c κs = search needs
+
+add-result : tie.Need-add-result
+add-result c = omega (arith, total c, word-fits c)
+
+add-result-2 : tie.Need-add-result-2
+add-result-2 c = omega (arith, total c, word-fits c)
+
+add-result-3 : tie.Need-add-result-3
+add-result-3 c = omega (arith, total c, word-fits c)
+
+add-result-4 : tie.Need-add-result-4
+add-result-4 c = omega (arith, total c, word-fits c)
+
+add-result-5 : tie.Need-add-result-5
+add-result-5 c = omega (arith, total c, word-fits c)
+
+returns : tie.Need-returns
+returns c = (total c, omega (arith, total c, word-fits c))
+
+pub entry-word-spec : {M : Type 1} → statement M
+entry-word-spec =
+    tie.close
+    (tie.spec
+    places-of-requires
+    low-requires
+    down-requires
+    up-requires
+    up-requires-2
+    flag-requires
+    up-requires-3
+    flag-requires-2
+    up-requires-4
+    flag-requires-3
+    up-requires-5
+    add-result
+    add-result-2
+    add-result-3
+    add-result-4
+    add-result-5
+    returns)
