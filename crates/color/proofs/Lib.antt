@@ -1,0 +1,6 @@
+pub mod Places
+pub mod Packing
+pub mod Unpacking
+pub mod Channels
+pub mod Trips
+pub mod Laws

@@ -1,0 +1,42 @@
+-- Four grays, one after the other.
+-- Assumes nothing.
+use mathlib.Core.Path.{refl, _∙_}
+use denote.Ref.{now}
+use Rattle.color.specs.Places.{grayAt}
+use Rattle.color.proofs.Unpacking.{put-colors}
+use borrow.Author.Needs.{needs}
+use Rattle.color.proofs.put_four.Statement.{statement}
+use Rattle.color.proofs.put_four.Tie as tie
+
+put-gray-requires : tie.Need-put-gray-requires
+put-gray-requires c κs = search needs
+
+put-gray-requires-2 : tie.Need-put-gray-requires-2
+put-gray-requires-2 c κs = search needs
+
+put-gray-requires-3 : tie.Need-put-gray-requires-3
+put-gray-requires-3 c κs = search needs
+
+put-gray-requires-4 : tie.Need-put-gray-requires-4
+put-gray-requires-4 c κs = search needs
+
+same-length : tie.Need-same-length
+same-length c = search needs
+
+returns : tie.Need-returns
+returns c =
+    let a = c .before .before .before .before .before .before .before .before .before .before .before .before .before .before .before .before .before .args in
+    c .before .before .put-gray4 .ensures
+    ∙ rw (c .before .before .before .before .before .before .put-gray3 .ensures, c .before .before .before .before .before .before .before .before .before .before .put-gray2 .ensures, c .before .before .before .before .before .before .before .before .before .before .before .before .before .before .put-gray .ensures)
+    (put-colors (now (a .out)) (grayAt (a .l) (a .word) (a .l .first)) (grayAt (a .l) (a .word) (a .l .second)) (grayAt (a .l) (a .word) (a .l .third)) (grayAt (a .l) (a .word) (a .l .fourth)) refl refl refl refl (c .before .before .before .before .before .before .before .before .before .before .before .before .before .before .before .before .before .pre .1))
+
+pub put-four-spec : {M : Type 1} → statement M
+put-four-spec =
+    tie.close
+    (tie.spec
+    put-gray-requires
+    put-gray-requires-2
+    put-gray-requires-3
+    put-gray-requires-4
+    same-length
+    returns)

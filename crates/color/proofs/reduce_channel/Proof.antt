@@ -1,0 +1,38 @@
+-- The reduced channel, where there is such a mode.
+-- Assumes nothing.
+use mathlib.Core.Path.{_∙_}
+use borrow.Author.Tests.{lt-ltb, le-ltb}
+use borrow.Author.Needs.{needs}
+use Rattle.color.proofs.reduce_channel.Statement.{statement}
+use Rattle.color.proofs.reduce_channel.Tie as tie
+
+no-number-requires : tie.Need-no-number-requires
+no-number-requires c κs = search needs
+
+returns : tie.Need-returns
+returns c =
+    c .no-number .ensures ∙ rw (lt-ltb 15 _ (c .before .if1 .taken))
+
+layout-of-requires : tie.Need-layout-of-requires
+layout-of-requires c κs = search needs
+
+wide-requires : tie.Need-wide-requires
+wide-requires c κs = search needs
+
+reduced-to-requires : tie.Need-reduced-to-requires
+reduced-to-requires c κs = search needs
+
+returns-2 : tie.Need-returns-2
+returns-2 c =
+    rw (le-ltb 15 _ (c .before .before .before .if1 .left), c .reduced-to .ensures, c .before .wide .ensures .0, c .before .before .layout-of .ensures .0)
+
+pub reduce-channel-spec : {M : Type 1} → statement M
+reduce-channel-spec =
+    tie.close
+    (tie.spec
+    no-number-requires
+    returns
+    layout-of-requires
+    wide-requires
+    reduced-to-requires
+    returns-2)
