@@ -1,0 +1,62 @@
+-- Document 01's marked examples, as one table under one statement.
+-- Assumes nothing.
+use mathlib.Core.Bool.{Bool, true, false, _&&_}
+use mathlib.Core.List.{List, [], _∷_}
+use Prim.Native.Nat.{ℕ}
+use lib.Dec.{T, eqb}
+use Rattle.words.specs.Bytes.{same}
+use Rattle.mode.specs.Table.{row}
+use Rattle.color.specs.Color as color
+use Rattle.mapentry.specs.Entry as entry
+use Rattle.rumchivoat.specs.Station.{entryFrom}
+
+-- What a call answers and writes, and what document 01 has.
+pub record Example : Type 0 where
+  pub says : ℕ
+  pub bytes : List ℕ
+  pub refusal : ℕ
+  pub expected : List ℕ
+
+-- colours, four bytes each, into a buffer of 64 bytes
+colors : ℕ → List ℕ → List ℕ → Example
+colors m cs expected = record { says = color.packSays m cs 64; bytes = color.packed m cs; refusal = 0; expected = expected }
+
+-- an entry into a buffer of 64 bytes
+packs : ℕ → ℕ → ℕ → Bool → Bool → Bool → List ℕ → Example
+packs m t p h v q expected =
+    record { says = entry.packSays m (entryFrom t p h v q) 64; bytes = entry.entryBytes m (entryFrom t p h v q); refusal = 0; expected = expected }
+
+refuses : ℕ → ℕ → ℕ → Bool → Bool → Bool → ℕ → Example
+refuses m t p h v q refusal =
+    record { says = entry.packSays m (entryFrom t p h v q) 64; bytes = []; refusal = refusal; expected = [] }
+
+gray : ℕ → List ℕ → List ℕ
+gray g rest = g ∷ g ∷ g ∷ 255 ∷ rest
+
+pub examples : List Example
+examples =
+    -- (e) snes (31,0,16): 1f 40
+    colors 0 (31 ∷ 0 ∷ 16 ∷ 255 ∷ []) (0x1f ∷ 0x40 ∷ [])
+    -- (f) md (7,1,4): 08 2e
+    ∷ colors 6 (7 ∷ 1 ∷ 4 ∷ 255 ∷ []) (0x08 ∷ 0x2e ∷ [])
+    -- (g) gb grays 3 2 1 0: e4
+    ∷ colors 2 (gray 3 (gray 2 (gray 1 (gray 0 [])))) (0xe4 ∷ [])
+    -- (h) ws 7 5 2 0: 20 75
+    ∷ colors 13 (gray 7 (gray 5 (gray 2 (gray 0 [])))) (0x20 ∷ 0x75 ∷ [])
+    -- (i) snes entry 513, palette 5, h, priority: 01 76
+    ∷ packs 0 513 5 true false true (0x01 ∷ 0x76 ∷ [])
+    -- (j) md 801, palette 2, v: 53 21
+    ∷ packs 6 801 2 false true false (0x53 ∷ 0x21 ∷ [])
+    -- (k) pce 4095, 15: ff ff; 4096 or h: 10
+    ∷ packs 9 4095 15 false false false (0xff ∷ 0xff ∷ [])
+    ∷ refuses 9 4096 15 false false false 10
+    ∷ refuses 9 4095 15 true false false 10
+    ∷ []
+
+pub holds : List Example → Bool
+holds [] = true
+holds (e ∷ es) = (eqb (e .says) (e .refusal) && same (e .bytes) (e .expected)) && holds es
+
+pub examples-hold : T (holds examples)
+unfolding holds examples colors packs refuses gray row color.coloring color.packed color.packSays entry.layout entry.entrySays entry.packSays
+examples-hold = tt

@@ -1,0 +1,14 @@
+-- The station's plain numbers, as the values that the definitions speak of.
+-- Assumes nothing.
+use Prim.Native.Nat.{ℕ}
+use mathlib.Core.Bool.{Bool, cond}
+use Rattle.color.specs.declared.Rounding.{Rounding}
+use Rattle.color.specs.declared.Rounding.the-variants.{Truncate, Nearest}
+use Rattle.mapentry.specs.declared.Mapentry.{Mapentry}
+
+abbrev pub roundingOf : Bool → Rounding
+roundingOf nearest = cond nearest Nearest Truncate
+
+abbrev pub entryFrom : ℕ → ℕ → Bool → Bool → Bool → Mapentry
+entryFrom tile palette h v priority =
+    record { tile = tile; palette = palette; «flip_h» = h; «flip_v» = v; priority = priority }
