@@ -1,0 +1,54 @@
+use native.Mathlib.Omega.{arith}
+use lib.ListN.{length-take}
+use borrow.Author.Needs.{needs}
+use Rattle.replay.proofs.entry_agrees.Statement.{statement}
+use Rattle.replay.proofs.entry_agrees.Tie as tie
+
+slice-aggregate-bytes-field : tie.Need-slice-aggregate-bytes-field
+slice-aggregate-bytes-field c = search needs
+
+bytes-field-requires : tie.Need-bytes-field-requires
+bytes-field-requires c κs = search needs
+
+number-field-requires : tie.Need-number-field-requires
+number-field-requires c κs = search needs
+
+entry-fields-requires : tie.Need-entry-fields-requires
+entry-fields-requires c κs = search needs
+
+slice-aggregate-pack-mapentry : tie.Need-slice-aggregate-pack-mapentry
+slice-aggregate-pack-mapentry c = search needs
+
+pack-mapentry-requires : tie.Need-pack-mapentry-requires
+pack-mapentry-requires c κs = search needs
+
+slice-aggregate-wrote : tie.Need-slice-aggregate-wrote
+slice-aggregate-wrote c = search needs
+
+array-share-prefix-expected : tie.Need-array-share-prefix-expected
+array-share-prefix-expected c = search needs
+
+slice-aggregate-wrote-2 : tie.Need-slice-aggregate-wrote-2
+slice-aggregate-wrote-2 c = simp length-take (omega arith)
+
+wrote-requires : tie.Need-wrote-requires
+wrote-requires c κs = search needs
+
+returns : tie.Need-returns
+returns c = search needs
+
+pub entry-agrees-spec : {M : Type 1} → statement M
+entry-agrees-spec =
+    tie.close
+    (tie.spec
+    slice-aggregate-bytes-field
+    bytes-field-requires
+    number-field-requires
+    entry-fields-requires
+    slice-aggregate-pack-mapentry
+    pack-mapentry-requires
+    slice-aggregate-wrote
+    array-share-prefix-expected
+    slice-aggregate-wrote-2
+    wrote-requires
+    returns)

@@ -1,0 +1,58 @@
+use borrow.Author.Needs.{needs}
+use Prim.Native.Nat.{_≤_, _-_, _+_}
+use lib.ListN.{length}
+use Rattle.replay.proofs.replay.Statement.{statement}
+use Rattle.replay.proofs.replay.Tie as tie
+
+abbrev Inv-loop : tie.InvT-loop
+Inv-loop s kind t₀ at₀ t at = (at ≤ length s + 1) × (t .lines ≤ at) × (t .different ≤ at)
+
+abbrev μ-loop : tie.MeasureT-loop
+μ-loop s kind t₀ at₀ t at = (length s + 1) - at
+
+loop-holds : tie.Need-loop-holds Inv-loop μ-loop
+loop-holds c = search needs
+
+line-end-requires : tie.Need-line-end-requires Inv-loop μ-loop
+line-end-requires c κs = search needs
+
+sub-counted : tie.Need-sub-counted Inv-loop μ-loop
+sub-counted c = search needs
+
+part-counted-start : tie.Need-part-counted-start Inv-loop μ-loop
+part-counted-start c = search needs
+
+part-counted-end : tie.Need-part-counted-end Inv-loop μ-loop
+part-counted-end c = search needs
+
+counted-requires : tie.Need-counted-requires Inv-loop μ-loop
+counted-requires c κs = search needs
+
+add-at : tie.Need-add-at Inv-loop μ-loop
+add-at c = search needs
+
+loop-less : tie.Need-loop-less Inv-loop μ-loop
+loop-less c = search needs
+
+loop-again : tie.Need-loop-again Inv-loop μ-loop
+loop-again c = search needs
+
+returns : tie.Need-returns Inv-loop μ-loop
+returns c = search needs
+
+pub replay-spec : {M : Type 1} → statement M
+replay-spec =
+    tie.close
+    (tie.spec
+    Inv-loop
+    μ-loop
+    loop-holds
+    line-end-requires
+    sub-counted
+    part-counted-start
+    part-counted-end
+    counted-requires
+    add-at
+    loop-less
+    loop-again
+    returns)
