@@ -1,0 +1,215 @@
+//! The benchmark: port and unchanged Rust on the same inputs, turn about, in one run.
+//!
+//! `cargo run --release --offline --bin bench` in host/. For each call and mode it prints the median time of one colour or
+//! entry on either side, and the ratio: above 1 the port is the faster.
+
+use std::fs;
+use std::hint::black_box;
+use std::time::Instant;
+
+use reading::{MODES, Random, Row};
+use superfamiconv::plain;
+
+const COLORS: usize = 256;
+const ENTRIES: usize = 1024;
+const RUNS: usize = 15;
+/// How long one run of one side should take: long beside the clock's grain, short beside the machine's moods.
+const RUN_NANOSECONDS: f64 = 1_000_000.0;
+
+/// A line of the table.
+struct Measured {
+    call: &'static str,
+    mode: &'static str,
+    items: usize,
+    port: f64,
+    rust: f64,
+}
+
+impl Measured {
+    fn ratio(&self) -> f64 {
+        self.rust / self.port
+    }
+}
+
+/// A mode on both sides.
+struct Sides {
+    number: u32,
+    row: &'static Row,
+    rust: plain::Mode,
+}
+
+fn main() {
+    if !superfamiconv::PRESENT {
+        return println!("benchmark {}", superfamiconv::ABSENT);
+    }
+    println!("{}; median of {RUNS} runs, ns for one colour or entry\n", processor());
+    println!("{:<14} {:<11} {:>5} {:>8} {:>8} {:>10}", "call", "mode", "items", "port", "Rust", "Rust/port");
+    let mut random = Random::new(1);
+    let mut table = Vec::new();
+    for measure in [pack_colors, unpack_colors, pack_entries, unpack_entries] {
+        for (number, row) in (0..).zip(&MODES) {
+            let sides = Sides { number, row, rust: plain::mode(number) };
+            table.extend(measure(&sides, &mut random).inspect(print_line));
+        }
+    }
+    let slowest = table.iter().min_by(|a, b| a.ratio().total_cmp(&b.ratio())).expect("the table has lines");
+    println!("\nleast ratio: {:.2}, {} in {}", slowest.ratio(), slowest.call, slowest.mode);
+}
+
+fn print_line(line: &Measured) {
+    let Measured { call, mode, items, port, rust } = line;
+    println!("{call:<14} {mode:<11} {items:>5} {port:>8.3} {rust:>8.3} {:>10.2}", line.ratio());
+}
+
+/// The processor, as Linux tells it.
+fn processor() -> String {
+    let told = fs::read_to_string("/proc/cpuinfo").unwrap_or_default();
+    let field = |name: &str| {
+        let line = told.lines().find(|line| line.starts_with(name))?;
+        Some(line.split_once(':')?.1.trim().to_owned())
+    };
+    let part = || Some(format!("implementer {}, part {}", field("CPU implementer")?, field("CPU part")?));
+    let name = field("model name").or_else(part).unwrap_or_else(|| "unknown processor".to_owned());
+    format!("{}: {name}", std::env::consts::ARCH)
+}
+
+fn nanoseconds(times: usize, call: &mut impl FnMut()) -> f64 {
+    let began = Instant::now();
+    for _ in 0..times {
+        call();
+    }
+    began.elapsed().as_nanos() as f64 / times as f64
+}
+
+/// How many calls fill a run; the first calls also warm the caches.
+fn times_for_a_run(call: &mut impl FnMut()) -> usize {
+    let one = nanoseconds(64, call).max(1.0);
+    (RUN_NANOSECONDS / one).ceil() as usize
+}
+
+fn median(mut times: Vec<f64>) -> f64 {
+    times.sort_by(f64::total_cmp);
+    times[times.len() / 2]
+}
+
+fn measured(
+    call: &'static str,
+    sides: &Sides,
+    items: usize,
+    mut port: impl FnMut(),
+    mut rust: impl FnMut(),
+) -> Option<Measured> {
+    let times = (times_for_a_run(&mut port), times_for_a_run(&mut rust));
+    let runs = (0..RUNS).map(|_| (nanoseconds(times.0, &mut port), nanoseconds(times.1, &mut rust)));
+    let (port, rust): (Vec<f64>, Vec<f64>) = runs.unzip();
+    let for_one = |times| median(times) / items as f64;
+    Some(Measured { call, mode: sides.row.name, items, port: for_one(port), rust: for_one(rust) })
+}
+
+/// 256 colours, or the four of gb and ws; ngp packs 256 and unpacks four.
+fn packable(sides: &Sides) -> usize {
+    if reading::packed_length(sides.number, 4 * COLORS).is_ok() { COLORS } else { 4 }
+}
+
+fn pack_colors(sides: &Sides, random: &mut Random) -> Option<Measured> {
+    let count = packable(sides);
+    let rgba = random.colors(sides.row.top, count);
+    let colors = plain::colors(&rgba);
+    let mut out = vec![0; 2 * COLORS];
+    measured(
+        "pack_colors",
+        sides,
+        count,
+        || {
+            let written = rumchivoat::pack_colors(black_box(sides.number), black_box(&rgba), black_box(&mut out));
+            black_box(written.expect("the colours are the mode's"));
+        },
+        || {
+            let bytes = plain::pack_colors(black_box(sides.rust), black_box(&colors));
+            black_box(bytes.expect("the colours are the mode's"));
+        },
+    )
+}
+
+fn unpack_colors(sides: &Sides, random: &mut Random) -> Option<Measured> {
+    let lengths = [2 * COLORS, COLORS, 4, 2, 1];
+    let holds = |length: &usize| matches!(reading::unpacked_count(sides.number, *length), Ok(COLORS | 4));
+    let length = lengths.into_iter().find(holds).expect("every mode unpacks 256 colours or four");
+    let bytes = random.bytes(length);
+    let count = reading::unpacked_count(sides.number, length).expect("the length is the mode's");
+    let mut out = vec![0; 4 * COLORS];
+    measured(
+        "unpack_colors",
+        sides,
+        count,
+        || {
+            let written = rumchivoat::unpack_colors(black_box(sides.number), black_box(&bytes), black_box(&mut out));
+            black_box(written.expect("the bytes are the mode's"));
+        },
+        || {
+            let colors = plain::unpack_colors(black_box(sides.rust), black_box(&bytes));
+            black_box(colors.expect("the bytes are the mode's"));
+        },
+    )
+}
+
+/// Random bytes of 1,024 entries; `None` in pce_sprite, which has none.
+fn entry_bytes(sides: &Sides, random: &mut Random) -> Option<Vec<u8>> {
+    let size = sides.row.entry_bytes;
+    (size > 0).then(|| random.bytes(size * ENTRIES))
+}
+
+fn pack_entries(sides: &Sides, random: &mut Random) -> Option<Measured> {
+    let bytes = entry_bytes(sides, random)?;
+    let size = sides.row.entry_bytes;
+    let theirs: Vec<plain::Entry> = bytes.chunks_exact(size).map(|b| plain::unpack_mapentry(sides.rust, b)).collect();
+    let read = |bytes| rumchivoat::unpack_entry(sides.number, bytes).expect("two bytes are an entry");
+    let ours: Vec<rumchivoat::Entry> = bytes.chunks_exact(size).map(read).collect();
+    let mut out = vec![0; bytes.len()];
+    let mut data = Vec::with_capacity(bytes.len());
+    measured(
+        "pack_entry",
+        sides,
+        ENTRIES,
+        || {
+            let mode = black_box(sides.number);
+            for (entry, place) in black_box(&ours).iter().zip(out.chunks_exact_mut(size)) {
+                rumchivoat::pack_entry(mode, *entry, place).expect("the entry is the mode's");
+            }
+            black_box(&out);
+        },
+        || {
+            let mode = black_box(sides.rust);
+            data.clear();
+            for &entry in black_box(&theirs) {
+                data.extend(plain::pack_mapentry(mode, entry));
+            }
+            black_box(&data);
+        },
+    )
+}
+
+fn unpack_entries(sides: &Sides, random: &mut Random) -> Option<Measured> {
+    let bytes = entry_bytes(sides, random)?;
+    let size = sides.row.entry_bytes;
+    let mut ours = Vec::with_capacity(ENTRIES);
+    let mut theirs = Vec::with_capacity(ENTRIES);
+    measured(
+        "unpack_entry",
+        sides,
+        ENTRIES,
+        || {
+            let mode = black_box(sides.number);
+            ours.clear();
+            let read = |b| rumchivoat::unpack_entry(mode, b).expect("the bytes are an entry's");
+            ours.extend(black_box(&bytes).chunks_exact(size).map(read));
+            black_box(&ours);
+        },
+        || {
+            let mode = black_box(sides.rust);
+            theirs.clear();
+            theirs.extend(black_box(&bytes).chunks_exact(size).map(|b| plain::unpack_mapentry(mode, b)));
+            black_box(&theirs);
+        },
+    )
+}

@@ -1,0 +1,24 @@
+//! A station in small: a palette and a map entry, packed for three consoles, and a refusal.
+
+use rumchivoat::{Entry, Mode, pack_colors, pack_entry, unpack_entry};
+
+fn hex(bytes: &[u8]) -> String {
+    bytes.iter().map(|byte| format!("{byte:02x}")).collect::<Vec<_>>().join(" ")
+}
+
+fn main() {
+    let white_and_red = [3, 3, 3, 255, 3, 0, 0, 255];
+    let entry = Entry { tile: 257, palette: 1, flip_h: true, flip_v: false, priority: false };
+    for mode in [Mode::Snes, Mode::Md, Mode::Sms] {
+        let mut palette = [0; 4];
+        let written = pack_colors(mode, &white_and_red, &mut palette).expect("no component is above the top");
+        let mut map = [0; 2];
+        pack_entry(mode, entry, &mut map).expect("every field fits");
+        assert_eq!(unpack_entry(mode, &map), Ok(entry));
+        println!("{:<5} palette {:<12} entry {}", mode.name(), hex(&palette[..written]), hex(&map));
+    }
+
+    let mut untouched = [0xee; 2];
+    let refusal = pack_entry(Mode::Pce, entry, &mut untouched).expect_err("pce has no flips");
+    println!("{:<5} {refusal}; the buffer still holds {}", Mode::Pce.name(), hex(&untouched));
+}

@@ -1,0 +1,76 @@
+#!/bin/sh
+# Writes target/native/librumchivoat.a: the archive for a processor that `rt staticlib` does not write for.
+#
+# `rt staticlib` proves the crate and has the kit's compiler make x86-64 code of the module. Here the same command of
+# the kit proves the same crate again, over a toolchain folder whose compiler is the kit's own, told this machine's
+# processor: the same module, the same optimisations, another instruction set. Run `rt staticlib rumchivoat` first: it
+# leaves the proved libraries in target/rlib.
+set -eu
+cd "$(dirname "$0")/.."
+
+crate=rumchivoat
+machine=$(uname -m)
+case $machine in
+x86_64) echo "native.sh: on x86-64 the archive is rt's own, target/staticlib/lib$crate.a"; exit 0 ;;
+aarch64) triple=aarch64-unknown-linux-gnu ;;
+*) echo "native.sh: no compiler target is known here for $machine" >&2; exit 1 ;;
+esac
+
+rt=$(readlink -f "$(command -v rt)") || { echo "native.sh: rt is not on the path" >&2; exit 1; }
+kit=${RATTLE_HOME:-$(dirname "$(dirname "$rt")")}
+own=$kit/on/$machine
+root=$(pwd -P)
+native=$root/target/native
+
+# The toolchain folder: the kit's, with the compiler told the processor.
+make_toolchain() {
+    rm -rf "$native"
+    mkdir -p "$native/toolchain/bin"
+    for tool in "$own/toolchain/bin"/*; do
+        [ "${tool##*/}" = clang ] || ln -s "$tool" "$native/toolchain/bin/"
+    done
+    ln -s "$kit/toolchain/lib" "$native/toolchain/lib"
+    cat >"$native/toolchain/bin/clang" <<EOF
+#!/bin/sh
+# The module names x86-64; -Werror would make an error of the compiler's note that it is told another.
+for word in "\$@"; do
+    shift
+    case \$word in
+    --target=*) set -- "\$@" --target=$triple -Wno-override-module ;;
+    -march=* | -Werror) ;;
+    *) set -- "\$@" "\$word" ;;
+    esac
+done
+exec "$own/toolchain/bin/clang" "\$@"
+EOF
+    chmod +x "$native/toolchain/bin/clang"
+}
+
+# The crates that crates.txt gives to $crate.
+dependencies() {
+    sed -n "s/#.*//; s/^[[:space:]]*$crate[[:space:]]*://p" crates.txt
+}
+
+# The words of `rattle build` for the libraries, as rt passes them.
+set -- --extern "std=$own/rlib/std.rlib"
+for d in $(dependencies); do
+    if [ -d "crates/$d/src" ]; then library=$root/target/rlib/$d.rlib; else library=$own/rlib/$d.rlib; fi
+    [ -e "$library" ] || { echo "native.sh: $d is not proved yet: run \`rt staticlib $crate\` first" >&2; exit 1; }
+    set -- "$@" --extern "$d=$library"
+done
+set -- "$@" -L "dependency=$root/target/rlib" -L "dependency=$own/rlib"
+set -- "$@" --antt-project "$kit/logic/antt-project.json" --logic-built "$own/logic-built"
+
+make_toolchain
+said=$native/said
+status=0
+"$own/bin/rattle" build --crate-name "$crate" "$root/crates/$crate/src/lib.rt" "$@" \
+    --toolchain "$native/toolchain" --crate-type staticlib -o "$native/lib$crate.a" >"$said" 2>&1 || status=$?
+cat "$said"
+# As rt has it: proved, and with no C function of its own whose contract nothing proves.
+if [ "$status" -ne 0 ] || ! grep -q '^logic=proved' "$said" || grep -q '^logic=proved .*foreign=' "$said"; then
+    rm -f "$native/lib$crate.a"
+    echo "native.sh: $crate is NOT PROVED: no archive" >&2
+    exit 1
+fi
+echo "native.sh: target/native/lib$crate.a is for $machine"

@@ -1,0 +1,29 @@
+//! Document 01 read once more, in plain Rust.
+//!
+//! Nothing here is taken from the port or from the Rust: each definition follows a sentence of document 01, by sums,
+//! quotients and lists of bits rather than by masks and shifts, so that a slip of one is not repeated in another. Every
+//! call answers as the station's calls do: a refusal is document 01's number, and lent bytes change only on success.
+
+mod channel;
+mod colors;
+mod entries;
+mod modes;
+mod random;
+
+pub use channel::{reduce_channel, scale_up};
+pub use colors::{pack_colors, packed_length, unpack_colors, unpacked_count};
+pub use entries::{Entry, attribute, pack_entry, tile_index, unpack_entry};
+pub use modes::{MODES, Row, row};
+pub use random::Random;
+
+/// A value, or the number of a refusal.
+pub type Answer<T> = Result<T, u32>;
+
+/// Refusal 11 where the buffer is shorter than the bytes to be written; else these bytes at its start.
+fn write(bytes: &[u8], out: &mut [u8]) -> Answer<usize> {
+    if out.len() < bytes.len() {
+        return Err(11);
+    }
+    out[..bytes.len()].copy_from_slice(bytes);
+    Ok(bytes.len())
+}

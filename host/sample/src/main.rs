@@ -1,0 +1,175 @@
+//! Prints the fixed list: a sample of the Rust's answers, the same in every run.
+//!
+//! `cargo run --release --offline --bin sample` in host/. Every answer is the Rust's own; every input is one that
+//! document 01 answers with 0, as `reading` tells.
+
+use std::process::ExitCode;
+
+use reading::{MODES, Random, Row};
+use superfamiconv::plain;
+
+const HEAD: &str = "\
+# A sample of the Rust's answers (SuperFamiconv 566522204e, compiled unchanged), on inputs that document 01 answers with 0.
+# Made by `cargo run --release --offline --bin sample` in host/: edges first, then xorshift numbers of a fixed seed.
+# One case a line. Modes are numbers; bytes are hexadecimal, - where there are none; H V PRIORITY NEAREST are 0 or 1.
+# colors MODE RGBA BYTES                       pack_colors
+# palette MODE BYTES RGBA                      unpack_colors
+# reduce MODE VALUE NEAREST RESULT             reduce_channel
+# scale MODE COMPONENT RESULT                  scale_up
+# entry MODE TILE PALETTE H V PRIORITY BYTES   pack_mapentry
+# read MODE BYTES TILE PALETTE H V PRIORITY    unpack_mapentry
+# index MODE TILE PALETTE H V PRIORITY BYTES   get_tile_index
+# attribute MODE TILE PALETTE H V PRIORITY VALUE   get_attribute";
+
+/// Colours of a random case: with their bytes they stay below 160 digits.
+const MOST_COLORS: u32 = 12;
+
+/// A mode, its row and the Rust's name for it.
+struct Case {
+    mode: u32,
+    row: &'static Row,
+    rust: plain::Mode,
+}
+
+fn main() -> ExitCode {
+    if !superfamiconv::PRESENT {
+        eprintln!("the fixed list {}", superfamiconv::ABSENT);
+        return ExitCode::FAILURE;
+    }
+    println!("{HEAD}");
+    let mut random = Random::new(1);
+    for print in [print_colors, print_palettes, print_channels, print_entries, print_reads] {
+        for (mode, row) in (0..).zip(&MODES) {
+            print(&Case { mode, row, rust: plain::mode(mode) }, &mut random);
+        }
+    }
+    ExitCode::SUCCESS
+}
+
+fn hex(bytes: &[u8]) -> String {
+    if bytes.is_empty() {
+        return "-".to_owned();
+    }
+    bytes.iter().map(|byte| format!("{byte:02x}")).collect()
+}
+
+/// Whether the mode packs so many colours.
+fn packs(case: &Case, colors: usize) -> bool {
+    reading::packed_length(case.mode, 4 * colors).is_ok()
+}
+
+/// A number of colours that the mode packs.
+fn some_colors(case: &Case, random: &mut Random) -> usize {
+    let count = 1 + random.below(MOST_COLORS) as usize;
+    if packs(case, count) { count } else { 4 }
+}
+
+fn print_colors(case: &Case, random: &mut Random) {
+    let top = case.row.top as u8;
+    let corners = (0..8).flat_map(|corner| [corner & 1, corner >> 1 & 1, corner >> 2 & 1].map(|on| on * top));
+    let corners: Vec<u8> = corners.collect::<Vec<u8>>().chunks(3).flat_map(|c| [c[0], c[1], c[2], 255]).collect();
+    if packs(case, 0) {
+        print_packed(case, &[]);
+        print_packed(case, &corners);
+    } else {
+        corners.chunks(16).for_each(|four| print_packed(case, four));
+    }
+    for _ in 0..14 {
+        let count = some_colors(case, random);
+        print_packed(case, &random.colors(case.row.top, count));
+    }
+}
+
+fn print_packed(case: &Case, rgba: &[u8]) {
+    let bytes = plain::pack_colors(case.rust, &plain::colors(rgba)).expect("the mode packs so many colours");
+    println!("colors {} {} {}", case.mode, hex(rgba), hex(&bytes));
+}
+
+fn print_palettes(case: &Case, random: &mut Random) {
+    let length = |colors: usize| reading::packed_length(case.mode, 4 * colors);
+    let unpacks = |length: &usize| reading::unpacked_count(case.mode, *length).is_ok();
+    let four = length(4).expect("every mode packs four colours");
+    for bytes in [vec![0; four], vec![255; four]] {
+        print_unpacked(case, &bytes);
+    }
+    if unpacks(&0) {
+        print_unpacked(case, &[]);
+    }
+    for _ in 0..14 {
+        let count = some_colors(case, random);
+        // unused bits are as random as the others
+        let some = length(count).ok().filter(unpacks).unwrap_or(four);
+        print_unpacked(case, &random.bytes(some));
+    }
+}
+
+fn print_unpacked(case: &Case, bytes: &[u8]) {
+    let colors = plain::unpack_colors(case.rust, bytes).expect("the mode unpacks so many bytes");
+    println!("palette {} {} {}", case.mode, hex(bytes), hex(&plain::rgba(&colors)));
+}
+
+fn print_channels(case: &Case, random: &mut Random) {
+    let edges = [0, 1, 127, 128, 254, 255];
+    let values = edges.into_iter().chain((0..12).map(|_| random.byte()));
+    for value in values {
+        for nearest in [false, true] {
+            let result = plain::reduce_channel(case.rust, value, nearest);
+            println!("reduce {} {value} {} {result}", case.mode, u8::from(nearest));
+        }
+    }
+    for component in 0..=case.row.top as u8 {
+        println!("scale {} {component} {}", case.mode, plain::scale_up(case.rust, component));
+    }
+}
+
+/// The edges of each field, then random entries, each as the mode holds it.
+fn entries(row: &Row, random: &mut Random) -> Vec<plain::Entry> {
+    let (tiles, palettes) = (1 << row.tile_bits, 1 << row.palette_bits);
+    let mut entries = vec![plain::entry(0, 0, false, false, false)];
+    entries.extend((0..row.tile_bits).map(|bit| plain::entry(1 << bit, 0, false, false, false)));
+    entries.extend((0..row.palette_bits).map(|bit| plain::entry(0, 1 << bit, false, false, false)));
+    if row.flips {
+        entries.push(plain::entry(0, 0, true, false, false));
+        entries.push(plain::entry(0, 0, false, true, false));
+    }
+    if row.priority {
+        entries.push(plain::entry(0, 0, false, false, true));
+    }
+    entries.push(plain::entry(tiles - 1, palettes - 1, row.flips, row.flips, row.priority));
+    entries.extend((0..12).map(|_| {
+        let (tile, palette) = (random.below(tiles), random.below(palettes));
+        let mut flag = |has: bool| random.flag() && has;
+        plain::entry(tile, palette, flag(row.flips), flag(row.flips), flag(row.priority))
+    }));
+    entries
+}
+
+/// The fields of an entry as the list has them.
+fn fields(entry: plain::Entry) -> String {
+    let (tile, palette, h, v, priority) = plain::fields(entry);
+    format!("{tile} {palette} {} {} {}", u8::from(h), u8::from(v), u8::from(priority))
+}
+
+fn print_entries(case: &Case, random: &mut Random) {
+    if case.row.entry_bytes == 0 {
+        return;
+    }
+    for entry in entries(case.row, random) {
+        let (mode, fields) = (case.mode, fields(entry));
+        println!("entry {mode} {fields} {}", hex(&plain::pack_mapentry(case.rust, entry)));
+        println!("index {mode} {fields} {}", hex(&plain::get_tile_index(case.rust, entry)));
+        println!("attribute {mode} {fields} {}", plain::get_attribute(case.rust, entry));
+    }
+}
+
+fn print_reads(case: &Case, random: &mut Random) {
+    let size = case.row.entry_bytes;
+    if size == 0 {
+        return;
+    }
+    let bits = (0..8 * size).map(|bit| (1u32 << bit).to_le_bytes()[..size].to_vec());
+    let words = bits.chain([vec![0; size], vec![255; size]]).collect::<Vec<_>>();
+    for bytes in words.into_iter().chain((0..14).map(|_| random.bytes(size))) {
+        println!("read {} {} {}", case.mode, hex(&bytes), fields(plain::unpack_mapentry(case.rust, &bytes)));
+    }
+}

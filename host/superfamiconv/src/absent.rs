@@ -1,0 +1,82 @@
+//! The names of `plain.rs` where the Rust's text is absent: callers compile, and a call panics.
+#![allow(missing_docs)] // `plain.rs` has it
+
+/// The Rust's mode.
+#[derive(Clone, Copy)]
+pub struct Mode;
+
+/// The Rust's colour at a mode's own precision.
+#[derive(Clone, Copy)]
+pub struct Color;
+
+/// The Rust's map entry.
+#[derive(Clone, Copy)]
+pub struct Entry;
+
+fn absent() -> ! {
+    panic!("{}", crate::ABSENT)
+}
+
+pub fn mode(_number: u32) -> Mode {
+    absent()
+}
+
+pub fn name(_mode: Mode) -> String {
+    absent()
+}
+
+pub fn colors(_bytes: &[u8]) -> Vec<Color> {
+    absent()
+}
+
+pub fn rgba(_colors: &[Color]) -> Vec<u8> {
+    absent()
+}
+
+pub fn entry(_tile: u32, _palette: u32, _flip_h: bool, _flip_v: bool, _priority: bool) -> Entry {
+    absent()
+}
+
+pub fn fields(_entry: Entry) -> (u32, u32, bool, bool, bool) {
+    absent()
+}
+
+pub fn pack_colors(_mode: Mode, _colors: &[Color]) -> Result<Vec<u8>, String> {
+    absent()
+}
+
+pub fn unpack_colors(_mode: Mode, _bytes: &[u8]) -> Result<Vec<Color>, String> {
+    absent()
+}
+
+pub fn reduce_channel(_mode: Mode, _value: u8, _nearest: bool) -> u8 {
+    absent()
+}
+
+pub fn reduce_gray(_mode: Mode, _value: u8, _nearest: bool) -> u8 {
+    absent()
+}
+
+pub fn scale_up(_mode: Mode, _component: u8) -> u8 {
+    absent()
+}
+
+pub fn mapentry_size(_mode: Mode) -> usize {
+    absent()
+}
+
+pub fn pack_mapentry(_mode: Mode, _entry: Entry) -> Vec<u8> {
+    absent()
+}
+
+pub fn unpack_mapentry(_mode: Mode, _bytes: &[u8]) -> Entry {
+    absent()
+}
+
+pub fn get_tile_index(_mode: Mode, _entry: Entry) -> Vec<u8> {
+    absent()
+}
+
+pub fn get_attribute(_mode: Mode, _entry: Entry) -> u8 {
+    absent()
+}

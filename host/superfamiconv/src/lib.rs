@@ -1,0 +1,21 @@
+//! The Rust that was ported, unchanged, and its calls with plain numbers.
+//!
+//! The build script puts the Rust's files into one tree with stand-ins for the modules that its text lacks. Where the
+//! Rust's text is absent the crate still compiles, [`PRESENT`] is false and every call panics.
+
+#[cfg(present)]
+include!(concat!(env!("OUT_DIR"), "/rust/root.rs"));
+
+#[cfg_attr(present, path = "plain.rs")]
+#[cfg_attr(not(present), path = "absent.rs")]
+pub mod plain;
+
+/// Whether the Rust's text was there when this crate was compiled.
+pub const PRESENT: bool = cfg!(present);
+
+/// One line that says why there is nothing to compare with, where there is not.
+pub const ABSENT: &str = concat!(
+    "skipped: the Rust's text is not in ",
+    env!("RUMCHIVOAT_RUST_LOOKED_IN"),
+    " (RUMCHIVOAT_RUST can name its folder)"
+);

@@ -1,0 +1,116 @@
+//! The Rust's calls, with modes by number and colours and entries made of plain numbers.
+
+use crate::color::{NormalizedColor, Rgba8888};
+use crate::mode::color::{ColorRounding, ModeColor};
+use crate::mode::map::ModeMap;
+
+/// The Rust's mode.
+pub type Mode = crate::mode::Mode;
+
+/// The Rust's colour at a mode's own precision.
+pub type Color = crate::color::ReducedColor;
+
+/// The Rust's map entry.
+pub type Entry = crate::map::Mapentry;
+
+/// The mode of a number, in document 01's order, which is the order of the Rust's variants.
+pub fn mode(number: u32) -> Mode {
+    use crate::mode::Mode::*;
+    [Snes, SnesMode7, Gb, Gbc, Gba, GbaAffine, Md, Sms, Gg, Pce, PceSprite, Ngp, Ngpc, Ws, Wsc, WscPacked]
+        [number as usize]
+}
+
+/// The name that the Rust shows for a mode.
+pub fn name(mode: Mode) -> String {
+    mode.to_string()
+}
+
+/// Colours of four bytes each: r, g, b, a.
+pub fn colors(bytes: &[u8]) -> Vec<Color> {
+    bytes.chunks_exact(4).map(|c| crate::color::ReducedColor(Rgba8888::from_bytes([c[0], c[1], c[2], c[3]]))).collect()
+}
+
+/// The four bytes of each colour.
+pub fn rgba(colors: &[Color]) -> Vec<u8> {
+    colors.iter().flat_map(|color| color.to_bytes()).collect()
+}
+
+/// An entry of these fields.
+pub fn entry(tile: u32, palette: u32, flip_h: bool, flip_v: bool, priority: bool) -> Entry {
+    Entry { tile_index: tile, palette_index: palette, flip_h, flip_v, priority }
+}
+
+/// The fields of an entry: tile, palette, flip h, flip v, priority.
+pub fn fields(entry: Entry) -> (u32, u32, bool, bool, bool) {
+    (entry.tile_index, entry.palette_index, entry.flip_h, entry.flip_v, entry.priority)
+}
+
+/// `ModeColor::pack_colors`.
+#[inline]
+pub fn pack_colors(mode: Mode, colors: &[Color]) -> Result<Vec<u8>, String> {
+    ModeColor::pack_colors(&mode, colors)
+}
+
+/// `ModeColor::unpack_colors`.
+#[inline]
+pub fn unpack_colors(mode: Mode, bytes: &[u8]) -> Result<Vec<Color>, String> {
+    ModeColor::unpack_colors(&mode, bytes)
+}
+
+/// The Rust's private `reduce_channel`, through the red of `reduce_color`. The gray modes reduce a colour's luma, so
+/// there the colour is one whose luma is `value`.
+pub fn reduce_channel(mode: Mode, value: u8, nearest: bool) -> u8 {
+    let color = match mode {
+        Mode::Gb | Mode::Ngp | Mode::Ws => of_luma(value),
+        _ => NormalizedColor::new(value, value, value, 255),
+    };
+    mode.reduce_color(color, ColorRounding::from(nearest)).r
+}
+
+/// A colour of this luma: the gray of this value, or that gray with a little more red where the Rust's floating point
+/// gives the gray one less.
+fn of_luma(value: u8) -> NormalizedColor {
+    let reds = value..=value.saturating_add(1);
+    reds.map(|red| NormalizedColor::new(red, value, value, 255))
+        .find(|color| color.luma_u8() == value)
+        .expect("every value is the luma of a colour")
+}
+
+/// What the Rust's `reduce_color` makes of the gray of this value: in the gray modes the gray's luma is reduced, which
+/// for 22 of the 256 grays is one less than the value.
+pub fn reduce_gray(mode: Mode, value: u8, nearest: bool) -> u8 {
+    let gray = NormalizedColor::new(value, value, value, 255);
+    mode.reduce_color(gray, ColorRounding::from(nearest)).r
+}
+
+/// The Rust's private `scale_up`, through the red of `normalize_color`.
+pub fn scale_up(mode: Mode, component: u8) -> u8 {
+    mode.normalize_color(Color::new(component, component, component, 0)).r
+}
+
+/// `ModeMap::mapentry_size`.
+pub fn mapentry_size(mode: Mode) -> usize {
+    ModeMap::mapentry_size(&mode)
+}
+
+/// `ModeMap::pack_mapentry`.
+#[inline]
+pub fn pack_mapentry(mode: Mode, entry: Entry) -> Vec<u8> {
+    ModeMap::pack_mapentry(&mode, entry)
+}
+
+/// `ModeMap::unpack_mapentry`.
+#[inline]
+pub fn unpack_mapentry(mode: Mode, bytes: &[u8]) -> Entry {
+    ModeMap::unpack_mapentry(&mode, bytes)
+}
+
+/// `ModeMap::get_tile_index`.
+pub fn get_tile_index(mode: Mode, entry: Entry) -> Vec<u8> {
+    ModeMap::get_tile_index(&mode, entry)
+}
+
+/// `ModeMap::get_attribute`.
+pub fn get_attribute(mode: Mode, entry: Entry) -> u8 {
+    ModeMap::get_attribute(&mode, entry)
+}

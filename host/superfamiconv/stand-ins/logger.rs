@@ -1,0 +1,1 @@
+//! Stands in for the Rust's logger: no module names anything of it.

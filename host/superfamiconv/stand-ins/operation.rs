@@ -1,0 +1,1 @@
+//! Stands in for the Rust's operations: no module names anything of them.

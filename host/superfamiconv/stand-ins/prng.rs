@@ -1,0 +1,1 @@
+//! Stands in for the Rust's random numbers: no module names anything of them.
