@@ -1,12 +1,16 @@
-//! A station in small: a palette and a map entry, packed for three consoles, and a refusal.
+//! A station in small: a tile, a palette and a map entry, packed for three consoles, and a refusal.
 
-use rumchivoat::{Entry, Mode, pack_colors, pack_entry, unpack_entry};
+use rumchivoat::{Entry, Mode, pack_colors, pack_entry, pack_tile, unpack_entry};
 
 fn hex(bytes: &[u8]) -> String {
     bytes.iter().map(|byte| format!("{byte:02x}")).collect::<Vec<_>>().join(" ")
 }
 
 fn main() {
+    let mut slope = [0; 64];
+    for row in 0..8 {
+        slope[9 * row] = 1;
+    }
     let white_and_red = [3, 3, 3, 255, 3, 0, 0, 255];
     let entry = Entry { tile: 257, palette: 1, flip_h: true, flip_v: false, priority: false };
     for mode in [Mode::Snes, Mode::Md, Mode::Sms] {
@@ -15,6 +19,9 @@ fn main() {
         let mut map = [0; 2];
         pack_entry(mode, entry, &mut map).expect("every field fits");
         assert_eq!(unpack_entry(mode, &map), Ok(entry));
+        let mut tile = [0; 32];
+        let length = pack_tile(mode, 4, 8, 8, &slope, &mut tile).expect("every pixel fits four bits");
+        println!("{:<5} tile    {} ..", mode.name(), hex(&tile[..length.min(8)]));
         println!("{:<5} palette {:<12} entry {}", mode.name(), hex(&palette[..written]), hex(&map));
     }
 

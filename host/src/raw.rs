@@ -34,6 +34,28 @@ pub(crate) struct Entry {
 }
 
 unsafe extern "C" {
+    fn rumchivoat_pack_tile(
+        mode: u32,
+        depth: u32,
+        width: u32,
+        height: u32,
+        pixels: *const u8,
+        pixels_len: usize,
+        out: *mut u8,
+        out_len: usize,
+    ) -> Written;
+
+    fn rumchivoat_unpack_tile(
+        mode: u32,
+        depth: u32,
+        width: u32,
+        height: u32,
+        bytes: *const u8,
+        bytes_len: usize,
+        out: *mut u8,
+        out_len: usize,
+    ) -> Written;
+
     fn rumchivoat_pack_colors(mode: u32, colors: *const u8, colors_len: usize, out: *mut u8, out_len: usize)
     -> Written;
 
@@ -76,6 +98,18 @@ unsafe extern "C" {
         flip_v: bool,
         priority: bool,
     ) -> Number;
+}
+
+#[inline]
+pub(crate) fn pack_tile(mode: u32, depth: u32, width: u32, height: u32, pixels: &[u8], out: &mut [u8]) -> Written {
+    let (out_start, out_len) = (out.as_mut_ptr(), out.len());
+    unsafe { rumchivoat_pack_tile(mode, depth, width, height, pixels.as_ptr(), pixels.len(), out_start, out_len) }
+}
+
+#[inline]
+pub(crate) fn unpack_tile(mode: u32, depth: u32, width: u32, height: u32, bytes: &[u8], out: &mut [u8]) -> Written {
+    let (out_start, out_len) = (out.as_mut_ptr(), out.len());
+    unsafe { rumchivoat_unpack_tile(mode, depth, width, height, bytes.as_ptr(), bytes.len(), out_start, out_len) }
 }
 
 #[inline]
@@ -186,6 +220,28 @@ mod tests {
     /// The sixteen modes and three numbers that are none.
     fn mode_numbers() -> impl Iterator<Item = u32> {
         (0..16).chain([16, 255, u32::MAX])
+    }
+
+    #[test]
+    fn refused_tiles_tell_no_length() {
+        let input = [[0; 64], [255; 64], [0; 64], [0; 64]].concat();
+        for mode in mode_numbers() {
+            for depth in (0..=9).chain([u32::MAX]) {
+                for (width, height) in [(8, 8), (16, 16), (8, 16), (16, 8), (0, 0), (u32::MAX, u32::MAX)] {
+                    for length in [0, 8, 16, 32, 63, 64, 65, 128, 255, 256] {
+                        for room in [0, 7, 8, 63, 64, 128, 255, 256] {
+                            for input in [&input[..length], &vec![0; length]] {
+                                let mut out = vec![0xa5; room];
+                                let packed = pack_tile(mode, depth, width, height, input, &mut out);
+                                assert!(packed.is_bare_if_refused());
+                                let unpacked = unpack_tile(mode, depth, width, height, input, &mut out);
+                                assert!(unpacked.is_bare_if_refused());
+                            }
+                        }
+                    }
+                }
+            }
+        }
     }
 
     #[test]

@@ -2,6 +2,8 @@
 //! compared.
 
 mod common;
+#[path = "document/tiles.rs"]
+mod tiles;
 
 use common::{assert_writes, on_noise, rooms, told};
 use reading::{MODES, Random, Row};

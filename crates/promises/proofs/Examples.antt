@@ -1,13 +1,17 @@
 -- Document 01's marked examples, as one table under one statement.
 -- Assumes nothing.
 use mathlib.Core.Bool.{Bool, true, false, _&&_}
-use mathlib.Core.List.{List, [], _∷_}
+use mathlib.Core.List.{List, [], _∷_, _++_}
 use Prim.Native.Nat.{ℕ}
 use lib.Dec.{T, eqb}
+use lib.ListN.{replicate}
 use Rattle.words.specs.Bytes.{same}
 use Rattle.mode.specs.Table.{row}
 use Rattle.color.specs.Color as color
 use Rattle.mapentry.specs.Entry as entry
+use Rattle.tile.specs.Bits.{fromBits, table}
+use Rattle.tile.specs.Layout.{spread}
+use Rattle.tile.specs.Tile as tile
 use Rattle.rumchivoat.specs.Station.{entryFrom}
 
 -- What a call answers and writes, and what document 01 has.
@@ -16,6 +20,19 @@ pub record Example : Type 0 where
   pub bytes : List ℕ
   pub refusal : ℕ
   pub expected : List ℕ
+
+-- a tile of a mode at a depth, with its width and height, into a buffer of 128 bytes
+tiles : ℕ → ℕ → ℕ → ℕ → List ℕ → List ℕ → Example
+tiles m d w h pixels expected =
+    record { says = tile.packSays m d w h pixels 128; bytes = tile.packed m d w h pixels; refusal = 0; expected = expected }
+
+-- first row 0 1 2 3 0 1 2 3, else 0
+stripes : List ℕ
+stripes = (0 ∷ 1 ∷ 2 ∷ 3 ∷ 0 ∷ 1 ∷ 2 ∷ 3 ∷ []) ++ replicate 56 0
+
+-- pixels 1, 2, else 0
+oneTwo : List ℕ
+oneTwo = 1 ∷ 2 ∷ replicate 62 0
 
 -- colours, four bytes each, into a buffer of 64 bytes
 colors : ℕ → List ℕ → List ℕ → Example
@@ -35,8 +52,17 @@ gray g rest = g ∷ g ∷ g ∷ 255 ∷ rest
 
 pub examples : List Example
 examples =
+    -- (a) snes depth 2, first row 0 1 2 3 0 1 2 3, else 0: 55 33, fourteen 00
+    tiles 0 2 8 8 stripes (0x55 ∷ 0x33 ∷ replicate 14 0)
+    -- (b) ngp, same: 1b 1b, fourteen 00
+    ∷ tiles 11 2 8 8 stripes (0x1b ∷ 0x1b ∷ replicate 14 0)
+    -- (c) pixels 1, 2: gba 21, wsc_packed 12
+    ∷ tiles 4 4 8 8 oneTwo (0x21 ∷ replicate 31 0)
+    ∷ tiles 15 4 8 8 oneTwo (0x12 ∷ replicate 31 0)
+    -- (d) pce_sprite 16x16, only (9,0) = 8: byte 97 is 02
+    ∷ tiles 10 4 16 16 (replicate 9 0 ++ 8 ∷ replicate 246 0) (replicate 97 0 ++ 0x02 ∷ replicate 30 0)
     -- (e) snes (31,0,16): 1f 40
-    colors 0 (31 ∷ 0 ∷ 16 ∷ 255 ∷ []) (0x1f ∷ 0x40 ∷ [])
+    ∷ colors 0 (31 ∷ 0 ∷ 16 ∷ 255 ∷ []) (0x1f ∷ 0x40 ∷ [])
     -- (f) md (7,1,4): 08 2e
     ∷ colors 6 (7 ∷ 1 ∷ 4 ∷ 255 ∷ []) (0x08 ∷ 0x2e ∷ [])
     -- (g) gb grays 3 2 1 0: e4
@@ -58,5 +84,5 @@ holds [] = true
 holds (e ∷ es) = (eqb (e .says) (e .refusal) && same (e .bytes) (e .expected)) && holds es
 
 pub examples-hold : T (holds examples)
-unfolding holds examples colors packs refuses gray row color.coloring color.packed color.packSays entry.layout entry.entrySays entry.packSays
+unfolding holds examples tiles stripes oneTwo spread table fromBits tile.packingOf tile.packSays colors packs refuses gray row color.coloring color.packed color.packSays entry.layout entry.entrySays entry.packSays
 examples-hold = tt

@@ -4,6 +4,10 @@
 use mathlib.Core.Path.{sym, _∙_}
 use denote.Ref.{now}
 use Rattle.words.proofs.Results.{OneResult, OneContent, one-answer, one-content}
+use Rattle.rumchivoat.proofs.rumchivoat_pack_tile.Reads as pack-tile
+use Rattle.rumchivoat.proofs.rumchivoat_pack_tile.Kinds as pack-tile-kinds
+use Rattle.rumchivoat.proofs.rumchivoat_unpack_tile.Reads as unpack-tile
+use Rattle.rumchivoat.proofs.rumchivoat_unpack_tile.Kinds as unpack-tile-kinds
 use Rattle.rumchivoat.proofs.rumchivoat_pack_colors.Reads as pack-colors
 use Rattle.rumchivoat.proofs.rumchivoat_pack_colors.Kinds as pack-colors-kinds
 use Rattle.rumchivoat.proofs.rumchivoat_unpack_colors.Reads as unpack-colors
@@ -20,6 +24,18 @@ use Rattle.rumchivoat.proofs.rumchivoat_tile_index.Reads as tile-index
 use Rattle.rumchivoat.proofs.rumchivoat_tile_index.Kinds as tile-index-kinds
 use Rattle.rumchivoat.proofs.rumchivoat_attribute.Reads as attribute
 use Rattle.rumchivoat.proofs.rumchivoat_attribute.Kinds as attribute-kinds
+
+pub pack-tile-result : OneResult 2 pack-tile-kinds.ps pack-tile-kinds.r pack-tile.Post
+pack-tile-result κs a x y s t p q = one-answer p q
+
+pub pack-tile-content : OneContent 2 pack-tile-kinds.ps pack-tile-kinds.r pack-tile.Post (λ κs s. now (s .1 .1 .1 .1 .1 .0))
+pack-tile-content κs a x y s t p q = one-content p q
+
+pub unpack-tile-result : OneResult 2 unpack-tile-kinds.ps unpack-tile-kinds.r unpack-tile.Post
+unpack-tile-result κs a x y s t p q = one-answer p q
+
+pub unpack-tile-content : OneContent 2 unpack-tile-kinds.ps unpack-tile-kinds.r unpack-tile.Post (λ κs s. now (s .1 .1 .1 .1 .1 .0))
+unpack-tile-content κs a x y s t p q = one-content p q
 
 pub pack-colors-result : OneResult 2 pack-colors-kinds.ps pack-colors-kinds.r pack-colors.Post
 pack-colors-result κs a x y s t p q = one-answer p q

@@ -141,6 +141,40 @@ fn entry_fields(line: &[u8], n: usize) -> Mapentry
     }
 }
 
+fn tile_agrees(line: &[u8]) -> bool {
+    let mut given = [0u8; 256];
+    let mut expected = [0u8; 256];
+    let mut out = [NOISE; 512];
+    let n = bytes_field(line, 5, &mut given);
+    let k = bytes_field(line, 6, &mut expected);
+    let r = tile::pack_tile(
+        number_field(line, 1),
+        number_field(line, 2),
+        number_field(line, 3),
+        number_field(line, 4),
+        &given[..n],
+        &mut out,
+    );
+    wrote(r, &out, &expected[..k])
+}
+
+fn pixels_agree(line: &[u8]) -> bool {
+    let mut given = [0u8; 256];
+    let mut expected = [0u8; 256];
+    let mut out = [NOISE; 512];
+    let n = bytes_field(line, 5, &mut given);
+    let k = bytes_field(line, 6, &mut expected);
+    let r = tile::unpack_tile(
+        number_field(line, 1),
+        number_field(line, 2),
+        number_field(line, 3),
+        number_field(line, 4),
+        &given[..n],
+        &mut out,
+    );
+    wrote(r, &out, &expected[..k])
+}
+
 fn colors_agree(line: &[u8]) -> bool {
     let mut given = [0u8; 256];
     let mut expected = [0u8; 256];
@@ -239,6 +273,8 @@ fn named(kind: u32, word: &[u8]) -> bool {
         5 => words::same_bytes(word, b"read"),
         6 => words::same_bytes(word, b"index"),
         7 => words::same_bytes(word, b"attribute"),
+        8 => words::same_bytes(word, b"tile"),
+        9 => words::same_bytes(word, b"pixels"),
         _ => words::same_bytes(word, b"#"),
     }
 }
@@ -253,6 +289,8 @@ fn print_kind(kind: u32) {
         5 => print(b"read"),
         6 => print(b"index"),
         7 => print(b"attribute"),
+        8 => print(b"tile"),
+        9 => print(b"pixels"),
         _ => print(b"comments"),
     }
 }
@@ -267,6 +305,8 @@ fn agrees(kind: u32, line: &[u8]) -> bool {
         5 => read_agrees(line),
         6 => index_agrees(line),
         7 => attribute_agrees(line),
+        8 => tile_agrees(line),
+        9 => pixels_agree(line),
         _ => true,
     }
 }
@@ -375,7 +415,7 @@ fn report(s: &[u8])
     requires { ⌜ length (now s) ≤ 262144 ⌝ }
 {
     let mut kind: u32 = 0;
-    while kind < 9 {
+    while kind < 11 {
         report_kind(s, kind);
         kind += 1;
     }

@@ -11,7 +11,36 @@ ghost use Rattle.mode.specs.Table.{row};
 ghost use Rattle.color.specs.Color.{packSays, packed, unpackSays, unpacked};
 ghost use Rattle.color.specs.Channel.{modeSays, reduced, scaleSays, scaledUp};
 ghost use Rattle.mapentry.specs.Entry as entry;
+ghost use Rattle.tile.specs.Tile as tile;
 ghost use Rattle.rumchivoat.specs.Station.{roundingOf, entryFrom};
+
+#[no_mangle]
+pub extern "C" fn rumchivoat_pack_tile(
+    mode: u32,
+    depth: u32,
+    width: u32,
+    height: u32,
+    pixels: &[u8],
+    out: &mut [u8],
+) -> Written
+    ensures { λ r. ⌜ Wrote (tile.packSays mode depth width height (now (pixels .entry)) (length (now (out .entry)))) (tile.packed mode depth width height (now (pixels .entry))) (now (out .entry)) r (now (out .exit)) ⌝ }
+{
+    tile::pack_tile(mode, depth, width, height, pixels, out)
+}
+
+#[no_mangle]
+pub extern "C" fn rumchivoat_unpack_tile(
+    mode: u32,
+    depth: u32,
+    width: u32,
+    height: u32,
+    bytes: &[u8],
+    out: &mut [u8],
+) -> Written
+    ensures { λ r. ⌜ Wrote (tile.unpackSays mode depth width height (length (now (bytes .entry))) (length (now (out .entry)))) (tile.unpacked mode depth width height (now (bytes .entry))) (now (out .entry)) r (now (out .exit)) ⌝ }
+{
+    tile::unpack_tile(mode, depth, width, height, bytes, out)
+}
 
 #[no_mangle]
 pub extern "C" fn rumchivoat_pack_colors(mode: u32, colors: &[u8], out: &mut [u8]) -> Written

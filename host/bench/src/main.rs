@@ -1,17 +1,19 @@
 //! The benchmark: port and unchanged Rust on the same inputs, turn about, in one run.
 //!
-//! `cargo run --release --offline --bin bench` in host/. For each call and mode it prints the median time of one colour or
-//! entry on either side, and the ratio: above 1 the port is the faster.
+//! `cargo run --release --offline --bin bench` in host/. For each call and mode it prints the median time of one colour,
+//! entry or tile on either side, and the ratio: above 1 the port is the faster. Tiles are of each depth, sprites of the
+//! smallest and the largest size.
 
 use std::fs;
 use std::hint::black_box;
 use std::time::Instant;
 
-use reading::{MODES, Random, Row};
+use reading::{MODES, Random, Row, Shape, native_shapes};
 use superfamiconv::plain;
 
 const COLORS: usize = 256;
 const ENTRIES: usize = 1024;
+const TILES: usize = 64;
 const RUNS: usize = 15;
 /// How long one run of one side should take: long beside the clock's grain, short beside the machine's moods.
 const RUN_NANOSECONDS: f64 = 1_000_000.0;
@@ -19,7 +21,7 @@ const RUN_NANOSECONDS: f64 = 1_000_000.0;
 /// A line of the table.
 struct Measured {
     call: &'static str,
-    mode: &'static str,
+    mode: String,
     items: usize,
     port: f64,
     rust: f64,
@@ -42,8 +44,8 @@ fn main() {
     if !superfamiconv::PRESENT {
         return println!("benchmark {}", superfamiconv::ABSENT);
     }
-    println!("{}; median of {RUNS} runs, ns for one colour or entry\n", processor());
-    println!("{:<14} {:<11} {:>5} {:>8} {:>8} {:>10}", "call", "mode", "items", "port", "Rust", "Rust/port");
+    println!("{}; median of {RUNS} runs, ns for one colour, entry or tile\n", processor());
+    println!("{:<14} {:<18} {:>5} {:>9} {:>9} {:>10}", "call", "mode", "items", "port", "Rust", "Rust/port");
     let mut random = Random::new(1);
     let mut table = Vec::new();
     for measure in [pack_colors, unpack_colors, pack_entries, unpack_entries] {
@@ -52,13 +54,20 @@ fn main() {
             table.extend(measure(&sides, &mut random).inspect(print_line));
         }
     }
+    for measure in [pack_tiles, unpack_tiles] {
+        for shape in timed_shapes() {
+            let line = measure(shape, &mut random);
+            print_line(&line);
+            table.push(line);
+        }
+    }
     let slowest = table.iter().min_by(|a, b| a.ratio().total_cmp(&b.ratio())).expect("the table has lines");
     println!("\nleast ratio: {:.2}, {} in {}", slowest.ratio(), slowest.call, slowest.mode);
 }
 
 fn print_line(line: &Measured) {
     let Measured { call, mode, items, port, rust } = line;
-    println!("{call:<14} {mode:<11} {items:>5} {port:>8.3} {rust:>8.3} {:>10.2}", line.ratio());
+    println!("{call:<14} {mode:<18} {items:>5} {port:>9.3} {rust:>9.3} {:>10.2}", line.ratio());
 }
 
 /// The processor, as Linux tells it.
@@ -94,16 +103,16 @@ fn median(mut times: Vec<f64>) -> f64 {
 
 fn measured(
     call: &'static str,
-    sides: &Sides,
+    mode: impl Into<String>,
     items: usize,
     mut port: impl FnMut(),
     mut rust: impl FnMut(),
-) -> Option<Measured> {
+) -> Measured {
     let times = (times_for_a_run(&mut port), times_for_a_run(&mut rust));
     let runs = (0..RUNS).map(|_| (nanoseconds(times.0, &mut port), nanoseconds(times.1, &mut rust)));
     let (port, rust): (Vec<f64>, Vec<f64>) = runs.unzip();
     let for_one = |times| median(times) / items as f64;
-    Some(Measured { call, mode: sides.row.name, items, port: for_one(port), rust: for_one(rust) })
+    Measured { call, mode: mode.into(), items, port: for_one(port), rust: for_one(rust) }
 }
 
 /// 256 colours, or the four of gb and ws; ngp packs 256 and unpacks four.
@@ -116,9 +125,9 @@ fn pack_colors(sides: &Sides, random: &mut Random) -> Option<Measured> {
     let rgba = random.colors(sides.row.top, count);
     let colors = plain::colors(&rgba);
     let mut out = vec![0; 2 * COLORS];
-    measured(
+    Some(measured(
         "pack_colors",
-        sides,
+        sides.row.name,
         count,
         || {
             let written = rumchivoat::pack_colors(black_box(sides.number), black_box(&rgba), black_box(&mut out));
@@ -128,7 +137,7 @@ fn pack_colors(sides: &Sides, random: &mut Random) -> Option<Measured> {
             let bytes = plain::pack_colors(black_box(sides.rust), black_box(&colors));
             black_box(bytes.expect("the colours are the mode's"));
         },
-    )
+    ))
 }
 
 fn unpack_colors(sides: &Sides, random: &mut Random) -> Option<Measured> {
@@ -138,9 +147,9 @@ fn unpack_colors(sides: &Sides, random: &mut Random) -> Option<Measured> {
     let bytes = random.bytes(length);
     let count = reading::unpacked_count(sides.number, length).expect("the length is the mode's");
     let mut out = vec![0; 4 * COLORS];
-    measured(
+    Some(measured(
         "unpack_colors",
-        sides,
+        sides.row.name,
         count,
         || {
             let written = rumchivoat::unpack_colors(black_box(sides.number), black_box(&bytes), black_box(&mut out));
@@ -150,7 +159,7 @@ fn unpack_colors(sides: &Sides, random: &mut Random) -> Option<Measured> {
             let colors = plain::unpack_colors(black_box(sides.rust), black_box(&bytes));
             black_box(colors.expect("the bytes are the mode's"));
         },
-    )
+    ))
 }
 
 /// Random bytes of 1,024 entries; `None` in pce_sprite, which has none.
@@ -167,9 +176,9 @@ fn pack_entries(sides: &Sides, random: &mut Random) -> Option<Measured> {
     let ours: Vec<rumchivoat::Entry> = bytes.chunks_exact(size).map(read).collect();
     let mut out = vec![0; bytes.len()];
     let mut data = Vec::with_capacity(bytes.len());
-    measured(
+    Some(measured(
         "pack_entry",
-        sides,
+        sides.row.name,
         ENTRIES,
         || {
             let mode = black_box(sides.number);
@@ -186,7 +195,7 @@ fn pack_entries(sides: &Sides, random: &mut Random) -> Option<Measured> {
             }
             black_box(&data);
         },
-    )
+    ))
 }
 
 fn unpack_entries(sides: &Sides, random: &mut Random) -> Option<Measured> {
@@ -194,9 +203,9 @@ fn unpack_entries(sides: &Sides, random: &mut Random) -> Option<Measured> {
     let size = sides.row.entry_bytes;
     let mut ours = Vec::with_capacity(ENTRIES);
     let mut theirs = Vec::with_capacity(ENTRIES);
-    measured(
+    Some(measured(
         "unpack_entry",
-        sides,
+        sides.row.name,
         ENTRIES,
         || {
             let mode = black_box(sides.number);
@@ -210,6 +219,79 @@ fn unpack_entries(sides: &Sides, random: &mut Random) -> Option<Measured> {
             theirs.clear();
             theirs.extend(black_box(&bytes).chunks_exact(size).map(|b| plain::unpack_mapentry(mode, b)));
             black_box(&theirs);
+        },
+    ))
+}
+
+/// Every mode and depth: 8x8, and of the sprites the smallest and the largest.
+fn timed_shapes() -> impl Iterator<Item = Shape> {
+    native_shapes().filter(|shape| [(8, 8), (16, 16), (32, 64)].contains(&(shape.width, shape.height)))
+}
+
+/// Mode and depth, and a sprite's size.
+fn shape_text(shape: Shape) -> String {
+    let Shape { mode, depth, width, height } = shape;
+    let name = MODES[mode as usize].name;
+    if width == 8 { format!("{name} {depth}") } else { format!("{name} {depth} {width}x{height}") }
+}
+
+fn pack_tiles(shape: Shape, random: &mut Random) -> Measured {
+    let Shape { mode, depth, width, height } = shape;
+    let rust = plain::mode(mode);
+    let pixels = random.pixels(depth, TILES * shape.pixels());
+    let mut out = vec![0; TILES * shape.bytes()];
+    let mut data = Vec::with_capacity(out.len());
+    measured(
+        "pack_tile",
+        shape_text(shape),
+        TILES,
+        || {
+            let (mode, depth) = black_box((mode, depth));
+            let places = out.chunks_exact_mut(shape.bytes());
+            for (tile, place) in black_box(&pixels).chunks_exact(shape.pixels()).zip(places) {
+                rumchivoat::pack_tile(mode, depth, width, height, tile, place).expect("the tile is native");
+            }
+            black_box(&out);
+        },
+        || {
+            let (mode, depth) = black_box((rust, depth));
+            data.clear();
+            for tile in black_box(&pixels).chunks_exact(shape.pixels()) {
+                data.extend(plain::pack_tile(mode, depth, width, height, tile).expect("the tile is native"));
+            }
+            black_box(&data);
+        },
+    )
+}
+
+/// At depth 1 the Rust runs off a tile's 8 bytes: there it is given 16, of which it reads every other one.
+fn unpack_tiles(shape: Shape, random: &mut Random) -> Measured {
+    let Shape { mode, depth, width, height } = shape;
+    let rust = plain::mode(mode);
+    let bytes = random.bytes(TILES * shape.bytes());
+    let rust_size = shape.bytes().max(16);
+    let rust_bytes = if depth == 1 { random.bytes(TILES * rust_size) } else { bytes.clone() };
+    let mut out = vec![0; TILES * shape.pixels()];
+    let mut data = Vec::with_capacity(out.len());
+    measured(
+        "unpack_tile",
+        shape_text(shape),
+        TILES,
+        || {
+            let (mode, depth) = black_box((mode, depth));
+            let places = out.chunks_exact_mut(shape.pixels());
+            for (tile, place) in black_box(&bytes).chunks_exact(shape.bytes()).zip(places) {
+                rumchivoat::unpack_tile(mode, depth, width, height, tile, place).expect("the tile is native");
+            }
+            black_box(&out);
+        },
+        || {
+            let (mode, depth) = black_box((rust, depth));
+            data.clear();
+            for tile in black_box(&rust_bytes).chunks_exact(rust_size) {
+                data.extend(plain::unpack_tile(mode, depth, width, height, tile).expect("the tile is native"));
+            }
+            black_box(&data);
         },
     )
 }

@@ -9,12 +9,14 @@ mod colors;
 mod entries;
 mod modes;
 mod random;
+mod tiles;
 
 pub use channel::{reduce_channel, scale_up};
 pub use colors::{pack_colors, packed_length, unpack_colors, unpacked_count};
 pub use entries::{Entry, attribute, pack_entry, tile_index, unpack_entry};
 pub use modes::{MODES, Row, row};
 pub use random::Random;
+pub use tiles::{Shape, native_shapes, pack_tile, unpack_tile};
 
 /// A value, or the number of a refusal.
 pub type Answer<T> = Result<T, u32>;

@@ -7,6 +7,8 @@ use crate::Answer;
 pub struct Row {
     /// The mode's name.
     pub name: &'static str,
+    /// The bits of a pixel: each of these.
+    pub depths: &'static [u32],
     /// The largest colour component.
     pub top: u32,
     /// The bytes of a map entry.
@@ -27,27 +29,29 @@ const NO: bool = false;
 /// The sixteen modes.
 #[rustfmt::skip]
 pub const MODES: [Row; 16] = [
-    //  name          top  entry  tile  palette  flips  priority
-    mode("snes",       31,     2,   10,       3,   YES,      YES),
-    mode("snes_mode7", 31,     1,    8,       0,    NO,       NO),
-    mode("gb",          3,     1,    8,       0,    NO,       NO),
-    mode("gbc",        31,     2,    9,       3,   YES,      YES),
-    mode("gba",        31,     2,   10,       4,   YES,       NO),
-    mode("gba_affine", 31,     1,    8,       0,    NO,       NO),
-    mode("md",          7,     2,   11,       2,   YES,      YES),
-    mode("sms",         3,     2,    9,       1,   YES,      YES),
-    mode("gg",         15,     2,    9,       1,   YES,      YES),
-    mode("pce",         7,     2,   12,       4,    NO,       NO),
-    mode("pce_sprite",  7,     0,    0,       0,    NO,       NO),
-    mode("ngp",         7,     2,    9,       1,   YES,       NO),
-    mode("ngpc",       15,     2,    9,       4,   YES,       NO),
-    mode("ws",          7,     2,   10,       4,   YES,       NO),
-    mode("wsc",        15,     2,   10,       4,   YES,       NO),
-    mode("wsc_packed", 15,     2,   10,       4,   YES,       NO),
+    //  name           depths     top  entry  tile  palette  flips  priority
+    mode("snes",       &[2, 4, 8], 31,     2,   10,       3,   YES,      YES),
+    mode("snes_mode7", &[8],       31,     1,    8,       0,    NO,       NO),
+    mode("gb",         &[1, 2],     3,     1,    8,       0,    NO,       NO),
+    mode("gbc",        &[1, 2],    31,     2,    9,       3,   YES,      YES),
+    mode("gba",        &[4, 8],    31,     2,   10,       4,   YES,       NO),
+    mode("gba_affine", &[8],       31,     1,    8,       0,    NO,       NO),
+    mode("md",         &[4],        7,     2,   11,       2,   YES,      YES),
+    mode("sms",        &[4],        3,     2,    9,       1,   YES,      YES),
+    mode("gg",         &[4],       15,     2,    9,       1,   YES,      YES),
+    mode("pce",        &[4],        7,     2,   12,       4,    NO,       NO),
+    mode("pce_sprite", &[4],        7,     0,    0,       0,    NO,       NO),
+    mode("ngp",        &[2],        7,     2,    9,       1,   YES,       NO),
+    mode("ngpc",       &[2],       15,     2,    9,       4,   YES,       NO),
+    mode("ws",         &[2],        7,     2,   10,       4,   YES,       NO),
+    mode("wsc",        &[2, 4],    15,     2,   10,       4,   YES,       NO),
+    mode("wsc_packed", &[4],       15,     2,   10,       4,   YES,       NO),
 ];
 
+#[allow(clippy::too_many_arguments)] // the table's columns
 const fn mode(
     name: &'static str,
+    depths: &'static [u32],
     top: u32,
     entry_bytes: usize,
     tile_bits: u32,
@@ -55,7 +59,7 @@ const fn mode(
     flips: bool,
     priority: bool,
 ) -> Row {
-    Row { name, top, entry_bytes, tile_bits, palette_bits, flips, priority }
+    Row { name, depths, top, entry_bytes, tile_bits, palette_bits, flips, priority }
 }
 
 /// Refusal 1: "mode number above 15".

@@ -38,6 +38,11 @@ impl Random {
         (0..length).map(|_| self.byte()).collect()
     }
 
+    /// So many pixels below 2^depth.
+    pub fn pixels(&mut self, depth: u32, count: usize) -> Vec<u8> {
+        (0..count).map(|_| self.below(1 << depth) as u8).collect()
+    }
+
     /// So many colours that a top allows, with any alpha.
     pub fn colors(&mut self, top: u32, count: usize) -> Vec<u8> {
         (0..count)

@@ -1,6 +1,6 @@
 //! The reading against the unchanged Rust, where document 01 answers 0: the reading is known good without the port.
 
-use reading::{Entry, MODES, Random, Row};
+use reading::{Entry, MODES, Random, Row, Shape, native_shapes};
 use superfamiconv::plain;
 
 fn rows() -> impl Iterator<Item = (u32, &'static Row, plain::Mode)> {
@@ -32,6 +32,18 @@ fn same_colors(mode: u32, rust: plain::Mode, bytes: &[u8]) {
     assert_eq!(packed, plain::pack_colors(rust, &plain::colors(&colors)).map_err(|_| 7), "mode {mode} {colors:?}");
 }
 
+/// Packed alike; at depth 1, where the Rust runs off in unpacking, the reading unpacks what the Rust packs.
+fn same_tile(shape: Shape, pixels: &[u8]) {
+    let Shape { mode, depth, width, height } = shape;
+    let theirs = plain::pack_tile(plain::mode(mode), depth, width, height, pixels).unwrap();
+    assert_eq!(written(|out| reading::pack_tile(shape, pixels, out)), Ok(theirs.clone()), "{shape:?} {pixels:?}");
+    assert_eq!(written(|out| reading::unpack_tile(shape, &theirs, out)), Ok(pixels.to_vec()), "{shape:?} {pixels:?}");
+    if depth > 1 {
+        let back = plain::unpack_tile(plain::mode(mode), depth, width, height, &theirs).unwrap();
+        assert_eq!(back, pixels, "{shape:?}");
+    }
+}
+
 fn same_entry(mode: u32, rust: plain::Mode, bytes: &[u8]) {
     let entry = reading::unpack_entry(mode, bytes).unwrap();
     let Entry { tile, palette, flip_h, flip_v, priority } = entry;
@@ -50,6 +62,26 @@ fn modes() {
     for (_, row, rust) in rows() {
         assert_eq!(plain::name(rust), row.name);
         assert_eq!(plain::mapentry_size(rust), row.entry_bytes);
+    }
+}
+
+#[test]
+fn tiles() {
+    if absent() {
+        return;
+    }
+    let mut random = Random::new(2);
+    for shape in native_shapes() {
+        for _ in 0..300 {
+            same_tile(shape, &random.pixels(shape.depth, shape.pixels()));
+        }
+        for place in 0..shape.pixels() {
+            for plane in 0..shape.depth {
+                let mut pixels = vec![0; shape.pixels()];
+                pixels[place] = 1 << plane;
+                same_tile(shape, &pixels);
+            }
+        }
     }
 }
 

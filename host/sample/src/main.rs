@@ -5,7 +5,7 @@
 
 use std::process::ExitCode;
 
-use reading::{MODES, Random, Row};
+use reading::{MODES, Random, Row, Shape, native_shapes};
 use superfamiconv::plain;
 
 const HEAD: &str = "\
@@ -19,10 +19,16 @@ const HEAD: &str = "\
 # entry MODE TILE PALETTE H V PRIORITY BYTES   pack_mapentry
 # read MODE BYTES TILE PALETTE H V PRIORITY    unpack_mapentry
 # index MODE TILE PALETTE H V PRIORITY BYTES   get_tile_index
-# attribute MODE TILE PALETTE H V PRIORITY VALUE   get_attribute";
+# attribute MODE TILE PALETTE H V PRIORITY VALUE   get_attribute
+# tile MODE DEPTH WIDTH HEIGHT PIXELS BYTES    pack_tile; a pixel is a byte
+# pixels MODE DEPTH WIDTH HEIGHT BYTES PIXELS  unpack_tile, but at depth 1, where the Rust panics";
 
 /// Colours of a random case: with their bytes they stay below 160 digits.
 const MOST_COLORS: u32 = 12;
+
+/// Random tiles of a mode and depth, of 8x8 and of 16x16; larger sprites would make long lines.
+const TILES: usize = 5;
+const SPRITES: usize = 1;
 
 /// A mode, its row and the Rust's name for it.
 struct Case {
@@ -41,6 +47,11 @@ fn main() -> ExitCode {
     for print in [print_colors, print_palettes, print_channels, print_entries, print_reads] {
         for (mode, row) in (0..).zip(&MODES) {
             print(&Case { mode, row, rust: plain::mode(mode) }, &mut random);
+        }
+    }
+    for print in [print_tiles, print_pixels] {
+        for shape in native_shapes().filter(|shape| shape.pixels() <= 256) {
+            print(shape, &mut random);
         }
     }
     ExitCode::SUCCESS
@@ -171,5 +182,55 @@ fn print_reads(case: &Case, random: &mut Random) {
     let words = bits.chain([vec![0; size], vec![255; size]]).collect::<Vec<_>>();
     for bytes in words.into_iter().chain((0..14).map(|_| random.bytes(size))) {
         println!("read {} {} {}", case.mode, hex(&bytes), fields(plain::unpack_mapentry(case.rust, &bytes)));
+    }
+}
+
+/// So many bytes, `first` and its successors, each cut to the low bits.
+fn counting(first: usize, bits: u32, length: usize) -> Vec<u8> {
+    (first..first + length).map(|number| (number % (1 << bits)) as u8).collect()
+}
+
+/// So many bytes of 0 but for one.
+fn all_but_one(length: usize, place: usize, value: u8) -> Vec<u8> {
+    let mut bytes = vec![0; length];
+    bytes[place] = value;
+    bytes
+}
+
+/// Tiles of `length` bytes, `bits` of each used: edges, then random ones. A sprite has one of each.
+fn tiles(length: usize, bits: u32, sprite: bool, random: &mut Random) -> Vec<Vec<u8>> {
+    let mut tiles = vec![counting(1, bits, length)];
+    if !sprite {
+        tiles.push(all_but_one(length, 1, 1));
+        tiles.push(all_but_one(length, length - 1, 1 << (bits - 1)));
+    }
+    tiles.extend((0..if sprite { SPRITES } else { TILES }).map(|_| random.pixels(bits, length)));
+    tiles
+}
+
+/// A shape as the list has it.
+fn shape_text(shape: Shape) -> String {
+    let Shape { mode, depth, width, height } = shape;
+    format!("{mode} {depth} {width} {height}")
+}
+
+fn print_tiles(shape: Shape, random: &mut Random) {
+    let Shape { mode, depth, width, height } = shape;
+    for pixels in tiles(shape.pixels(), depth, width > 8, random) {
+        let bytes = plain::pack_tile(plain::mode(mode), depth, width, height, &pixels);
+        let bytes = bytes.expect("the Rust packs a native tile");
+        println!("tile {} {} {}", shape_text(shape), hex(&pixels), hex(&bytes));
+    }
+}
+
+fn print_pixels(shape: Shape, random: &mut Random) {
+    let Shape { mode, depth, width, height } = shape;
+    if depth == 1 {
+        return;
+    }
+    for bytes in tiles(shape.bytes(), 8, width > 8, random) {
+        let pixels = plain::unpack_tile(plain::mode(mode), depth, width, height, &bytes);
+        let pixels = pixels.expect("the Rust unpacks a native tile");
+        println!("pixels {} {} {}", shape_text(shape), hex(&bytes), hex(&pixels));
     }
 }

@@ -41,6 +41,14 @@ pub fn fields(_entry: Entry) -> (u32, u32, bool, bool, bool) {
     absent()
 }
 
+pub fn pack_tile(_mode: Mode, _depth: u32, _width: u32, _height: u32, _pixels: &[u8]) -> Result<Vec<u8>, String> {
+    absent()
+}
+
+pub fn unpack_tile(_mode: Mode, _depth: u32, _width: u32, _height: u32, _bytes: &[u8]) -> Result<Vec<u8>, String> {
+    absent()
+}
+
 pub fn pack_colors(_mode: Mode, _colors: &[Color]) -> Result<Vec<u8>, String> {
     absent()
 }

@@ -3,6 +3,7 @@
 use crate::color::{NormalizedColor, Rgba8888};
 use crate::mode::color::{ColorRounding, ModeColor};
 use crate::mode::map::ModeMap;
+use crate::mode::tile::ModeTile;
 
 /// The Rust's mode.
 pub type Mode = crate::mode::Mode;
@@ -43,6 +44,18 @@ pub fn entry(tile: u32, palette: u32, flip_h: bool, flip_v: bool, priority: bool
 /// The fields of an entry: tile, palette, flip h, flip v, priority.
 pub fn fields(entry: Entry) -> (u32, u32, bool, bool, bool) {
     (entry.tile_index, entry.palette_index, entry.flip_h, entry.flip_v, entry.priority)
+}
+
+/// `ModeTile::pack_tile`.
+#[inline]
+pub fn pack_tile(mode: Mode, depth: u32, width: u32, height: u32, pixels: &[u8]) -> Result<Vec<u8>, String> {
+    ModeTile::pack_tile(&mode, pixels, depth, width, height)
+}
+
+/// `ModeTile::unpack_tile`.
+#[inline]
+pub fn unpack_tile(mode: Mode, depth: u32, width: u32, height: u32, bytes: &[u8]) -> Result<Vec<u8>, String> {
+    ModeTile::unpack_tile(&mode, bytes, depth, width, height)
 }
 
 /// `ModeColor::pack_colors`.

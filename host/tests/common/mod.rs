@@ -1,5 +1,6 @@
-//! What both test files use: calls on lent buffers of noise.
+//! What both test files use: calls on lent buffers of noise, and tiles.
 
+use reading::{Random, Shape};
 use rumchivoat::Refusal;
 
 /// A call's answer, with document 01's number where it is a refusal.
@@ -33,4 +34,48 @@ pub fn assert_writes(
     assert_eq!(&buffer[..bytes.len()], bytes, "bytes written by {}", case());
     assert_eq!(buffer[bytes.len()..], noise[bytes.len()..], "bytes left by {}", case());
     1
+}
+
+/// Fails unless the call writes these bytes in buffers of noise that are exact and one byte long, and is refused with 11
+/// in one that is one byte short.
+pub fn writes(
+    case: impl Fn() -> String,
+    bytes: &[u8],
+    random: &mut Random,
+    call: impl Fn(&mut [u8]) -> Result<usize, u32>,
+) -> u64 {
+    rooms(bytes.len())
+        .map(|room| {
+            let expected = if room < bytes.len() { Err(11) } else { Ok(bytes) };
+            assert_writes(|| format!("{} in {room} bytes", case()), expected, &random.bytes(room), &call)
+        })
+        .sum()
+}
+
+/// The port's `pack_tile`, told the shape.
+pub fn pack_tile(shape: Shape, pixels: &[u8], out: &mut [u8]) -> Result<usize, u32> {
+    let Shape { mode, depth, width, height } = shape;
+    told(rumchivoat::pack_tile(mode, depth, width, height, pixels, out))
+}
+
+/// The port's `unpack_tile`, told the shape.
+pub fn unpack_tile(shape: Shape, bytes: &[u8], out: &mut [u8]) -> Result<usize, u32> {
+    let Shape { mode, depth, width, height } = shape;
+    told(rumchivoat::unpack_tile(mode, depth, width, height, bytes, out))
+}
+
+/// Every way to set one of the low `bits` bits in one of so many bytes, all else 0.
+pub fn single_bits(length: usize, bits: u32) -> impl Iterator<Item = Vec<u8>> {
+    (0..length).flat_map(move |place| {
+        (0..bits).map(move |bit| {
+            let mut bytes = vec![0; length];
+            bytes[place] = 1 << bit;
+            bytes
+        })
+    })
+}
+
+/// The lengths of tiles, pixels and bytes, are powers of two: each, one less and one more.
+pub fn lengths_around_tiles() -> impl Iterator<Item = usize> {
+    (0..=12).flat_map(|power| [(1 << power) - 1, 1 << power, (1 << power) + 1])
 }

@@ -1,0 +1,7 @@
+pub mod Bits
+pub mod Filling
+pub mod RoundTrip
+pub mod Packings
+pub mod Native
+pub mod Checks
+pub mod Laws

@@ -1,0 +1,34 @@
+-- `tile::high_first_pixel` meets its contract: the high nibble for the first pixel of two.
+-- Assumes nothing.
+use mathlib.Core.Path.{sym}
+use Prim.Native.Nat.{_-_, _*_, _/_, _%_}
+use lib.ListN.{getD}
+use borrow.Author.Needs.{needs}
+use Rattle.tile.proofs.Bits.{field}
+use Rattle.tile.proofs.high_first_pixel.Statement.{statement}
+use Rattle.tile.proofs.high_first_pixel.Tie as tie
+
+shared-slice-read-result : tie.Need-shared-slice-read-result
+shared-slice-read-result c = search needs
+
+sub-result : tie.Need-sub-result
+sub-result c = search needs
+
+mul-result : tie.Need-mul-result
+mul-result c = search needs
+
+cast-result : tie.Need-cast-result
+cast-result c = search needs
+
+shr-result : tie.Need-shr-result
+shr-result c = search needs
+
+returns : tie.Need-returns
+returns c =
+    let a = c .before .args in
+    sym (field 4 ((1 - a .i % 2) * 4) (getD (a .bytes .now) (a .i / 2) 0))
+
+pub high-first-pixel-spec : {M : Type 1} → statement M
+high-first-pixel-spec =
+    tie.close
+    (tie.spec shared-slice-read-result sub-result mul-result cast-result shr-result returns)

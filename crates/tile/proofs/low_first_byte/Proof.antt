@@ -1,0 +1,50 @@
+-- `tile::low_first_byte` meets its contract: two nibbles, the first pixel low.
+-- Assumes nothing.
+use mathlib.Core.Path.{ap}
+use Prim.Native.Nat.{ℕ, _+_, _-_, _*_}
+use native.Mathlib.Nat.{add-zero}
+use native.Mathlib.Omega.{arith}
+use lib.ListN.{getD}
+use borrow.Author.Needs.{needs}
+use Rattle.tile.proofs.Bits.{two-fields}
+use Rattle.tile.proofs.low_first_byte.Statement.{statement}
+use Rattle.tile.proofs.low_first_byte.Tie as tie
+
+mul-first : tie.Need-mul-first
+mul-first c = search needs
+
+shared-slice-read-first : tie.Need-shared-slice-read-first
+shared-slice-read-first c = search needs
+
+mul-second : tie.Need-mul-second
+mul-second c = search needs
+
+add-second : tie.Need-add-second
+add-second c = search needs
+
+shared-slice-read-second : tie.Need-shared-slice-read-second
+shared-slice-read-second c = search needs
+
+mul-result : tie.Need-mul-result
+mul-result c = search needs
+
+add-result : tie.Need-add-result
+add-result c = search needs
+
+returns : tie.Need-returns
+returns c =
+    let a = c .before .before .args in
+    omega (arith, two-fields (λ q. getD (a .tile .now) (a .k * 2 + q) 0), ap (λ (m : ℕ). getD (a .tile .now) m 0) (add-zero (a .k * 2)))
+
+pub low-first-byte-spec : {M : Type 1} → statement M
+low-first-byte-spec =
+    tie.close
+    (tie.spec
+    mul-first
+    shared-slice-read-first
+    mul-second
+    add-second
+    shared-slice-read-second
+    mul-result
+    add-result
+    returns)

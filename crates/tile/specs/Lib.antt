@@ -1,0 +1,5 @@
+pub mod Bits
+pub mod Layout
+pub mod Packings
+pub mod Inner
+pub mod Tile
