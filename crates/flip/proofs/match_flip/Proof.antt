@@ -1,0 +1,79 @@
+-- The flips are tried one after the other: those before did not match.
+use mathlib.Core.Path.{sym, _∙_}
+use borrow.Author.Tests.{not-true, not-false}
+use borrow.Author.Needs.{needs}
+use Rattle.flip.specs.Matching.{matchFlip}
+use Rattle.flip.proofs.match_flip.Statement.{statement}
+use Rattle.flip.proofs.match_flip.Tie as tie
+
+same-flipped-requires : tie.Need-same-flipped-requires
+same-flipped-requires c κs = search needs
+
+returns : tie.Need-returns
+unfolding matchFlip
+returns c = simp (sym (c .before .same-flipped .ensures) ∙ c .if1 .taken)
+
+returns-2 : tie.Need-returns-2
+unfolding matchFlip
+returns-2 c = simp (sym (c .before .before .same-flipped .ensures) ∙ c .before .if1 .left, not-true (c .before .before .before .before .before .args .flips) (c .if2 .taken))
+
+same-flipped-requires-2 : tie.Need-same-flipped-requires-2
+same-flipped-requires-2 c κs = search needs
+
+returns-3 : tie.Need-returns-3
+unfolding matchFlip
+returns-3 c =
+    simp (sym (c .before .before .before .before .same-flipped .ensures) ∙ c .before .before .before .if1 .left, not-false (c .before .before .before .before .before .before .before .args .flips) (c .before .before .if2 .left), sym (c .before .same-flipped2 .ensures) ∙ c .if3 .taken)
+
+same-flipped-requires-3 : tie.Need-same-flipped-requires-3
+same-flipped-requires-3 c κs = search needs
+
+returns-4 : tie.Need-returns-4
+unfolding matchFlip
+returns-4 c =
+    simp (
+      sym (c .before .before .before .before .before .before .same-flipped .ensures) ∙ c .before .before .before .before .before .if1 .left,
+      not-false (c .before .before .before .before .before .before .before .before .before .args .flips) (c .before .before .before .before .if2 .left),
+      sym (c .before .before .before .same-flipped2 .ensures) ∙ c .before .before .if3 .left,
+      sym (c .before .same-flipped3 .ensures) ∙ c .if4 .taken,
+    )
+
+same-flipped-requires-4 : tie.Need-same-flipped-requires-4
+same-flipped-requires-4 c κs = search needs
+
+returns-5 : tie.Need-returns-5
+unfolding matchFlip
+returns-5 c =
+    simp (
+      sym (c .before .before .before .before .before .before .before .before .same-flipped .ensures) ∙ c .before .before .before .before .before .before .before .if1 .left,
+      not-false (c .before .before .before .before .before .before .before .before .before .before .before .args .flips) (c .before .before .before .before .before .before .if2 .left),
+      sym (c .before .before .before .before .before .same-flipped2 .ensures) ∙ c .before .before .before .before .if3 .left,
+      sym (c .before .before .before .same-flipped3 .ensures) ∙ c .before .before .if4 .left,
+      sym (c .before .same-flipped4 .ensures) ∙ c .if5 .taken,
+    )
+
+returns-6 : tie.Need-returns-6
+unfolding matchFlip
+returns-6 c =
+    simp (
+      sym (c .before .before .before .before .before .before .before .before .same-flipped .ensures) ∙ c .before .before .before .before .before .before .before .if1 .left,
+      not-false (c .before .before .before .before .before .before .before .before .before .before .before .args .flips) (c .before .before .before .before .before .before .if2 .left),
+      sym (c .before .before .before .before .before .same-flipped2 .ensures) ∙ c .before .before .before .before .if3 .left,
+      sym (c .before .before .before .same-flipped3 .ensures) ∙ c .before .before .if4 .left,
+      sym (c .before .same-flipped4 .ensures) ∙ c .if5 .left,
+    )
+
+pub match-flip-spec : {M : Type 1} → statement M
+match-flip-spec =
+    tie.close
+    (tie.spec
+    same-flipped-requires
+    returns
+    returns-2
+    same-flipped-requires-2
+    returns-3
+    same-flipped-requires-3
+    returns-4
+    same-flipped-requires-4
+    returns-5
+    returns-6)

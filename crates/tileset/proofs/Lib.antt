@@ -1,0 +1,11 @@
+pub mod Sizes
+pub mod Says
+pub mod Numbers
+pub mod Stores
+pub mod Search
+pub mod Adding
+pub mod Matched
+pub mod History
+pub mod Laws
+pub mod Writing
+pub mod Written

@@ -1,0 +1,172 @@
+-- What the calls answer where they are refused and where they are done, and what they know of a set once its checks passed.
+-- Assumes nothing.
+use mathlib.Core.Path.{_≡_, refl, sym, ap, _∙_}
+use mathlib.Core.Bool.{Bool, true, false, not, cond}
+use mathlib.Core.List.{List, [], _∷_}
+use Prim.Native.Nat.{ℕ, zero, suc, _+_, _*_, _/_, _<_, _≤_}
+use native.Mathlib.Nat.{suc-ne-zero, le-trans, le-div-iff-mul-le, mul-pos, suc-mul}
+use native.Mathlib.Omega.{arith}
+use lib.Dec.{ltb, eqb}
+use lib.ListN.{length, getD}
+use borrow.Author.Tests.{lt-ltb, le-ltb, ltb-false, eq-eqb, ne-eqb, eqb-true, not-false}
+use Rattle.words.specs.Answers.{_when_, lowest}
+use Rattle.words.proofs.Answers.{all-passed, not-given, first-given, when-done, when-refused}
+use Rattle.tileset.specs.Sets.{area, roomOf, roomIn, setSays, heldChecks, heldSays, lookChecks, lookSays, answered}
+use Rattle.tileset.specs.Finding.{noPlace, placeOf, placed, Looks}
+use Rattle.tileset.specs.Numbers.{nativeAnswer, logicalAnswer, gridSays, nativeSays, logicalSays, tileOf}
+use Rattle.tileset.specs.declared.Set.{Set}
+use Rattle.tileset.specs.declared.SetAnswer.{SetAnswer}
+use Rattle.tileset.specs.declared.Found.{Found}
+use Rattle.tileset.specs.declared.NativeAnswer.{NativeAnswer}
+use Rattle.tileset.specs.declared.LogicalAnswer.{LogicalAnswer}
+use Rattle.tileset.proofs.Sizes.{IsSet, set-of}
+
+-- the first check passed
+pub next-given : {n : ℕ} (ns : List ℕ) → n ≡ 0 → lowest (n ∷ ns) ≡ lowest ns
+next-given {n = zero} ns e = refl
+next-given {n = suc n} ns e = absurd (suc-ne-zero n e)
+
+-- ---- answers
+
+abbrev setAnswer : ℕ → Set → SetAnswer
+setAnswer n set = record { refusal = n; set = set }
+
+pub refused-set : (n : ℕ) {k : ℕ} (next set : Set) → n ≡ k → (n ≡ 0 → ⊥) → setAnswer n set ≡ answered k next set
+refused-set n {k} next set e h =
+    ap (λ (i : ℕ). setAnswer i set) e ∙ ap (setAnswer k) (sym (when-refused k next set (λ z. h (e ∙ z))))
+
+pub done-set : {k : ℕ} (next set : Set) → k ≡ 0 → setAnswer 0 next ≡ answered k next set
+done-set {k} next set e =
+    ap (λ (i : ℕ). setAnswer i next) (sym e) ∙ ap (setAnswer k) (sym (when-done k next set e))
+
+pub refused-place : (n : ℕ) {k : ℕ} (found : Found) → n ≡ k → (n ≡ 0 → ⊥) → noPlace n ≡ placed k found
+refused-place n {k} found e h = ap noPlace e ∙ sym (when-refused k (placeOf found) (noPlace k) (λ z. h (e ∙ z)))
+
+pub done-place : {k : ℕ} (found : Found) → k ≡ 0 → placeOf found ≡ placed k found
+done-place {k} found e = sym (when-done k (placeOf found) (noPlace k) e)
+
+abbrev nativeRaw : ℕ → ℕ → NativeAnswer
+nativeRaw n cell = record { refusal = n; number = record { 0 = cell } }
+
+pub refused-native : (n : ℕ) {k : ℕ} (cell : ℕ) → n ≡ k → (n ≡ 0 → ⊥) → nativeRaw n 0 ≡ nativeAnswer k cell
+refused-native n {k} cell e h =
+    ap (λ (i : ℕ). nativeRaw i 0) e ∙ ap (nativeRaw k) (sym (when-refused k cell 0 (λ z. h (e ∙ z))))
+
+pub done-native : {k : ℕ} (cell : ℕ) → k ≡ 0 → nativeRaw 0 cell ≡ nativeAnswer k cell
+done-native {k} cell e = ap (λ (i : ℕ). nativeRaw i cell) (sym e) ∙ ap (nativeRaw k) (sym (when-done k cell 0 e))
+
+abbrev logicalRaw : ℕ → ℕ → LogicalAnswer
+logicalRaw n tile = record { refusal = n; number = record { 0 = tile } }
+
+pub refused-logical : (n : ℕ) {k : ℕ} (tile : ℕ) → n ≡ k → (n ≡ 0 → ⊥) → logicalRaw n 0 ≡ logicalAnswer k tile
+refused-logical n {k} tile e h =
+    ap (λ (i : ℕ). logicalRaw i 0) e ∙ ap (logicalRaw k) (sym (when-refused k tile 0 (λ z. h (e ∙ z))))
+
+pub done-logical : {k : ℕ} (tile : ℕ) → k ≡ 0 → logicalRaw 0 tile ≡ logicalAnswer k tile
+done-logical {k} tile e = ap (λ (i : ℕ). logicalRaw i tile) (sym e) ∙ ap (logicalRaw k) (sym (when-done k tile 0 e))
+
+-- ---- room
+
+cond-le : (b : Bool) (x y k : ℕ) → x ≤ k → y ≤ k → cond b x y ≤ k
+cond-le true x y k p q = p
+cond-le false x y k p q = q
+
+pub room-whole : (limit whole : ℕ) → roomOf limit whole ≤ whole
+unfolding roomOf
+room-whole limit whole = cond-le (eqb limit 0) _ _ whole (omega arith) (omega arith)
+
+pub room-most : (limit whole : ℕ) → roomOf limit whole ≤ 65535
+unfolding roomOf
+room-most limit whole = cond-le (eqb limit 0) _ _ 65535 (omega arith) (omega arith)
+
+-- a set with room has room for one tile more in its store
+pub room-left : (limit len n count : ℕ) → 0 < n → count < roomOf limit (len / n) → count * n + n ≤ len
+room-left limit len n count z p =
+    let q : suc count ≤ len / n = le-trans p (room-whole limit (len / n)) in
+    omega (arith, le-div-iff-mul-le {k = n} z .0 q, suc-mul count n)
+
+-- ---- the checks of a set with its store
+
+abbrev pub says : Set → ℕ
+says z = setSays (z .mode) (z .depth) (z .width) (z .height)
+
+module _ (z : Set) (len : ℕ) where
+  pub held-first : (n : ℕ) → n ≡ says z → (n ≡ 0 → ⊥) → n ≡ heldSays z len
+  unfolding heldSays
+  held-first n e h = first-given n (6 when ltb (roomIn z len) (z .stored) ∷ []) e h
+
+  pub held-6 : says z ≡ 0 → roomIn z len < z .stored → 6 ≡ heldSays z len
+  unfolding heldSays
+  held-6 e h = rw (next-given (6 when ltb (roomIn z len) (z .stored) ∷ []) e, lt-ltb _ _ h)
+
+  pub held-0 : says z ≡ 0 → z .stored ≤ roomIn z len → 0 ≡ heldSays z len
+  unfolding heldSays
+  held-0 e h = rw (next-given (6 when ltb (roomIn z len) (z .stored) ∷ []) e, le-ltb _ _ h)
+
+  pub held-says-set : heldSays z len ≡ 0 → says z ≡ 0
+  unfolding heldSays
+  held-says-set e = all-passed (heldChecks z len) e 0
+
+  pub held-set : heldSays z len ≡ 0 → IsSet (z .mode) (z .depth) (z .width) (z .height)
+  unfolding heldSays
+  held-set e = set-of (z .mode) (z .depth) (z .width) (z .height) (all-passed (heldChecks z len) e 0)
+
+  pub held-room : heldSays z len ≡ 0 → z .stored ≤ roomIn z len
+  unfolding heldSays
+  held-room e = ltb-false (roomIn z len) (z .stored) (not-given 5 (ltb (roomIn z len) (z .stored)) (all-passed (heldChecks z len) e 1))
+
+  pub look-first : (given n : ℕ) → n ≡ heldSays z len → (n ≡ 0 → ⊥) → n ≡ lookSays z len given
+  unfolding lookSays
+  look-first given n e h = first-given n (7 when not (eqb given (area z)) ∷ []) e h
+
+  pub look-7 : (given : ℕ) → heldSays z len ≡ 0 → (given ≡ area z → ⊥) → 7 ≡ lookSays z len given
+  unfolding lookSays
+  look-7 given e h = rw (next-given (7 when not (eqb given (area z)) ∷ []) e, ne-eqb _ _ h)
+
+  pub look-0 : (given : ℕ) → heldSays z len ≡ 0 → given ≡ area z → 0 ≡ lookSays z len given
+  unfolding lookSays
+  look-0 given e h = rw (next-given (7 when not (eqb given (area z)) ∷ []) e, eq-eqb _ _ h)
+
+-- what a look-up and an add know
+pub looks-of : (z : Set) (store pixels : List ℕ) → lookSays z (length store) (length pixels) ≡ 0 → Looks z store pixels
+unfolding lookSays
+looks-of z store pixels e =
+    let passed : (k : ℕ) → getD (lookChecks z (length store) (length pixels)) k 0 ≡ 0 = all-passed (lookChecks z (length store) (length pixels)) e in
+    let set = held-set z (length store) (passed 0) in
+    let room = held-room z (length store) (passed 0) in
+    record {
+      deep = set .deep;
+      some = set .some;
+      tall = set .tall;
+      small = set .small;
+      inside = le-div-iff-mul-le {k = area z} (mul-pos (set .some) (set .tall)) .0 (le-trans room (room-whole (z .limit) (length store / area z)));
+      few = le-trans room (room-most (z .limit) (length store / area z));
+      whole = eqb-true (length pixels) (area z) (not-false (eqb (length pixels) (area z)) (not-given 6 (not (eqb (length pixels) (area z))) (passed 1)));
+    }
+
+-- ---- the checks of the two numbers
+
+module _ (m w h : ℕ) where
+  pub native-first : (n k : ℕ) → k ≡ gridSays m w h → (k ≡ 0 → ⊥) → k ≡ nativeSays m w h n
+  unfolding nativeSays
+  native-first n k e due = first-given k (4 when ltb 65535 n ∷ []) e due
+
+  pub logical-first : (c k : ℕ) → k ≡ gridSays m w h → (k ≡ 0 → ⊥) → k ≡ logicalSays m w h c
+  unfolding logicalSays
+  logical-first c k e due = first-given k (4 when ltb 65535 (tileOf m w h c) ∷ []) e due
+
+  pub native-4 : (n : ℕ) → gridSays m w h ≡ 0 → 65535 < n → 4 ≡ nativeSays m w h n
+  unfolding nativeSays
+  native-4 n e lt = rw (next-given (4 when ltb 65535 n ∷ []) e, lt-ltb _ _ lt)
+
+  pub native-0 : (n : ℕ) → gridSays m w h ≡ 0 → n ≤ 65535 → nativeSays m w h n ≡ 0
+  unfolding nativeSays
+  native-0 n e le = rw (next-given (4 when ltb 65535 n ∷ []) e, le-ltb _ _ le)
+
+  pub logical-4 : (c : ℕ) → gridSays m w h ≡ 0 → 65535 < tileOf m w h c → 4 ≡ logicalSays m w h c
+  unfolding logicalSays
+  logical-4 c e lt = rw (next-given (4 when ltb 65535 (tileOf m w h c) ∷ []) e, lt-ltb _ _ lt)
+
+  pub logical-0 : (c : ℕ) → gridSays m w h ≡ 0 → tileOf m w h c ≤ 65535 → logicalSays m w h c ≡ 0
+  unfolding logicalSays
+  logical-0 c e le = rw (next-given (4 when ltb 65535 (tileOf m w h c) ∷ []) e, le-ltb _ _ le)
