@@ -3,8 +3,8 @@
 #
 # `rt staticlib` proves the crate and has the kit's compiler make x86-64 code of the module. Here the same command of
 # the kit proves the same crate again, over a toolchain folder whose compiler is the kit's own, told this machine's
-# processor: the same module, the same optimisations, another instruction set. Run `rt staticlib rumchivoat` first: it
-# leaves the proved libraries in target/rlib.
+# processor: the same module, the same optimisations, another instruction set, and structs of more than 16 bytes passed
+# by that processor's rules. Run `rt staticlib rumchivoat` first: it leaves the proved libraries in target/rlib.
 set -eu
 cd "$(dirname "$0")/.."
 
@@ -22,26 +22,47 @@ own=$kit/on/$machine
 root=$(pwd -P)
 native=$root/target/native
 
-# The toolchain folder: the kit's, with the compiler told the processor.
+# The module's exports pass structs of more than 16 bytes by the C rules of x86-64: a result at the place that the first
+# argument names, which is answered as well; an argument copied onto the stack (byval). By those of aarch64 a result's
+# place comes in a register of its own (sret), and an argument is a pointer to a copy.
+write_rules() {
+    cat >"$native/rules.awk" <<'EOF'
+/^define noundef ptr @/ { place = sub(/noundef ptr/, "void") && sub(/\(ptr noundef/, "& sret(i8)") }
+/^define / { gsub(/ byval\([^)]*\)/, "") }
+place { sub(/^  ret ptr .*/, "  ret void") }
+/^}/ { place = 0 }
+{ print }
+EOF
+}
+
+# The toolchain folder: the kit's, with the compiler told the processor and given the module with its rules.
 make_toolchain() {
     rm -rf "$native"
     mkdir -p "$native/toolchain/bin"
+    write_rules
     for tool in "$own/toolchain/bin"/*; do
         [ "${tool##*/}" = clang ] || ln -s "$tool" "$native/toolchain/bin/"
     done
     ln -s "$kit/toolchain/lib" "$native/toolchain/lib"
     cat >"$native/toolchain/bin/clang" <<EOF
 #!/bin/sh
+set -eu
+compiler=$own/toolchain/bin/clang
 # The module names x86-64; -Werror would make an error of the compiler's note that it is told another.
 for word in "\$@"; do
     shift
     case \$word in
     --target=*) set -- "\$@" --target=$triple -Wno-override-module ;;
     -march=* | -Werror) ;;
+    *.bc)
+        "\$compiler" --target=$triple -Wno-override-module --no-default-config -Xclang -disable-llvm-passes \\
+            -S -emit-llvm -x ir "\$word" -o "\$word.x86.ll"
+        awk -f "$native/rules.awk" "\$word.x86.ll" >"\$word.ll"
+        set -- "\$@" "\$word.ll" ;;
     *) set -- "\$@" "\$word" ;;
     esac
 done
-exec "$own/toolchain/bin/clang" "\$@"
+exec "\$compiler" "\$@"
 EOF
     chmod +x "$native/toolchain/bin/clang"
 }

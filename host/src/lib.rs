@@ -21,10 +21,12 @@ mod entry;
 mod mode;
 mod raw;
 mod refusal;
+mod set;
 mod tile;
 
 pub use color::{Rounding, pack_colors, reduce_channel, scale_up, unpack_colors};
 pub use entry::{Entry, attribute, pack_entry, tile_index, unpack_entry};
 pub use mode::Mode;
 pub use refusal::Refusal;
+pub use set::{Logical, Native, Place, Set, logical_number, native_number};
 pub use tile::{pack_tile, unpack_tile};

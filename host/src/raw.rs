@@ -1,9 +1,9 @@
 //! The archive's functions as they are: a lent slice is a pointer and a length, an answer is a struct by value.
 //!
 //! None of them asks anything of its arguments beyond what Rust's own types give, so each call below is sound for every
-//! slice and number: two lent slices of one call never overlap, since one of them is `&mut`.
+//! slice and number: of two lent slices one is `&mut`, and then they do not overlap, or both are only read.
 
-use crate::Refusal;
+use crate::{Logical, Refusal, Set};
 
 /// The answer of a call that writes.
 #[repr(C)]
@@ -31,6 +31,25 @@ pub(crate) struct Entry {
     flip_h: bool,
     flip_v: bool,
     priority: bool,
+}
+
+/// The answer of a call that gives a set.
+#[repr(C)]
+#[derive(Debug, Clone, Copy)]
+pub(crate) struct SetAnswer {
+    refusal: u32,
+    set: Set,
+}
+
+/// The answer of a look-up.
+#[repr(C)]
+#[derive(Debug, Clone, Copy)]
+pub(crate) struct Place {
+    refusal: u32,
+    found: bool,
+    place: u32,
+    flip_h: bool,
+    flip_v: bool,
 }
 
 unsafe extern "C" {
@@ -98,6 +117,52 @@ unsafe extern "C" {
         flip_v: bool,
         priority: bool,
     ) -> Number;
+
+    safe fn rumchivoat_set_new(
+        mode: u32,
+        depth: u32,
+        width: u32,
+        height: u32,
+        flips: bool,
+        discarding: bool,
+        limit: u32,
+    ) -> SetAnswer;
+
+    safe fn rumchivoat_set_reset(set: Set) -> SetAnswer;
+
+    fn rumchivoat_set_look_up(
+        set: Set,
+        store: *const u8,
+        store_len: usize,
+        pixels: *const u8,
+        pixels_len: usize,
+    ) -> Place;
+
+    fn rumchivoat_set_add(
+        set: Set,
+        store: *mut u8,
+        store_len: usize,
+        pixels: *const u8,
+        pixels_len: usize,
+    ) -> SetAnswer;
+
+    fn rumchivoat_set_write(set: Set, store: *const u8, store_len: usize, out: *mut u8, out_len: usize) -> Written;
+
+    fn rumchivoat_set_read(
+        mode: u32,
+        depth: u32,
+        width: u32,
+        height: u32,
+        flips: bool,
+        bytes: *const u8,
+        bytes_len: usize,
+        store: *mut u8,
+        store_len: usize,
+    ) -> SetAnswer;
+
+    safe fn rumchivoat_native_number(mode: u32, width: u32, height: u32, logical: u32) -> Number;
+
+    safe fn rumchivoat_logical_number(mode: u32, width: u32, height: u32, native: u32) -> Number;
 }
 
 #[inline]
@@ -155,6 +220,63 @@ pub(crate) fn attribute(mode: u32, entry: crate::Entry) -> Number {
     rumchivoat_attribute(mode, tile, palette, flip_h, flip_v, priority)
 }
 
+#[inline]
+pub(crate) fn set_new(
+    mode: u32,
+    depth: u32,
+    width: u32,
+    height: u32,
+    flips: bool,
+    discarding: bool,
+    limit: u32,
+) -> SetAnswer {
+    rumchivoat_set_new(mode, depth, width, height, flips, discarding, limit)
+}
+
+#[inline]
+pub(crate) fn set_reset(set: Set) -> SetAnswer {
+    rumchivoat_set_reset(set)
+}
+
+#[inline]
+pub(crate) fn set_look_up(set: Set, store: &[u8], pixels: &[u8]) -> Place {
+    unsafe { rumchivoat_set_look_up(set, store.as_ptr(), store.len(), pixels.as_ptr(), pixels.len()) }
+}
+
+#[inline]
+pub(crate) fn set_add(set: Set, store: &mut [u8], pixels: &[u8]) -> SetAnswer {
+    unsafe { rumchivoat_set_add(set, store.as_mut_ptr(), store.len(), pixels.as_ptr(), pixels.len()) }
+}
+
+#[inline]
+pub(crate) fn set_write(set: Set, store: &[u8], out: &mut [u8]) -> Written {
+    unsafe { rumchivoat_set_write(set, store.as_ptr(), store.len(), out.as_mut_ptr(), out.len()) }
+}
+
+#[inline]
+pub(crate) fn set_read(
+    mode: u32,
+    depth: u32,
+    width: u32,
+    height: u32,
+    flips: bool,
+    bytes: &[u8],
+    store: &mut [u8],
+) -> SetAnswer {
+    let (start, length) = (store.as_mut_ptr(), store.len());
+    unsafe { rumchivoat_set_read(mode, depth, width, height, flips, bytes.as_ptr(), bytes.len(), start, length) }
+}
+
+#[inline]
+pub(crate) fn native_number(mode: u32, width: u32, height: u32, logical: u32) -> Number {
+    rumchivoat_native_number(mode, width, height, logical)
+}
+
+#[inline]
+pub(crate) fn logical_number(mode: u32, width: u32, height: u32, native: u32) -> Number {
+    rumchivoat_logical_number(mode, width, height, native)
+}
+
 /// `Ok` for 0, else the refusal of this number.
 #[inline]
 fn done(refusal: u32) -> Result<(), Refusal> {
@@ -186,12 +308,18 @@ impl Number {
         self.refusal == 0 || self.value == 0
     }
 
+    /// The number.
+    #[inline]
+    pub(crate) fn number(self) -> Result<u32, Refusal> {
+        debug_assert!(self.is_bare_if_refused());
+        done(self.refusal)?;
+        Ok(self.value)
+    }
+
     /// The number of a call that answers a component, a channel's value or an attribute.
     #[inline]
     pub(crate) fn byte(self) -> Result<u8, Refusal> {
-        debug_assert!(self.is_bare_if_refused());
-        done(self.refusal)?;
-        Ok(u8::try_from(self.value).expect("a component, a value or an attribute is a byte"))
+        Ok(u8::try_from(self.number()?).expect("a component, a value or an attribute is a byte"))
     }
 }
 
@@ -211,90 +339,37 @@ impl Entry {
     }
 }
 
-#[cfg(test)]
-mod tests {
-    //! What `Result` does not show: a refused answer holds nothing else.
-
-    use super::*;
-
-    /// The sixteen modes and three numbers that are none.
-    fn mode_numbers() -> impl Iterator<Item = u32> {
-        (0..16).chain([16, 255, u32::MAX])
+impl SetAnswer {
+    /// "Lent bytes and set state are untouched": a refusal hands back the set that came, an empty one where none did.
+    fn is_as_it_came_if_refused(&self, came: Set) -> bool {
+        self.refusal == 0 || self.set == came
     }
 
-    #[test]
-    fn refused_tiles_tell_no_length() {
-        let input = [[0; 64], [255; 64], [0; 64], [0; 64]].concat();
-        for mode in mode_numbers() {
-            for depth in (0..=9).chain([u32::MAX]) {
-                for (width, height) in [(8, 8), (16, 16), (8, 16), (16, 8), (0, 0), (u32::MAX, u32::MAX)] {
-                    for length in [0, 8, 16, 32, 63, 64, 65, 128, 255, 256] {
-                        for room in [0, 7, 8, 63, 64, 128, 255, 256] {
-                            for input in [&input[..length], &vec![0; length]] {
-                                let mut out = vec![0xa5; room];
-                                let packed = pack_tile(mode, depth, width, height, input, &mut out);
-                                assert!(packed.is_bare_if_refused());
-                                let unpacked = unpack_tile(mode, depth, width, height, input, &mut out);
-                                assert!(unpacked.is_bare_if_refused());
-                            }
-                        }
-                    }
-                }
-            }
-        }
-    }
-
-    #[test]
-    fn refused_colors_tell_no_length() {
-        let colors = [[0, 0, 0, 255], [31, 31, 31, 0], [255, 3, 3, 9]].concat();
-        for mode in mode_numbers() {
-            for length in 0..=colors.len() {
-                for room in 0..=colors.len() {
-                    let mut out = vec![0xa5; room];
-                    assert!(pack_colors(mode, &colors[..length], &mut out).is_bare_if_refused());
-                    let mut out = vec![0xa5; 3 * room];
-                    assert!(unpack_colors(mode, &colors[..length], &mut out).is_bare_if_refused());
-                }
-            }
-        }
-    }
-
-    #[test]
-    fn refused_numbers_are_0() {
-        for mode in mode_numbers() {
-            for value in 0..=255 {
-                for nearest in [false, true] {
-                    assert!(reduce_channel(mode, value, nearest).is_bare_if_refused());
-                }
-                assert!(scale_up(mode, u32::from(value)).is_bare_if_refused());
-                assert!(scale_up(mode, u32::MAX - u32::from(value)).is_bare_if_refused());
-            }
-        }
-    }
-
-    #[test]
-    fn refused_entries_are_empty() {
-        let bytes = [0xff; 4];
-        for mode in mode_numbers() {
-            for length in 0..=bytes.len() {
-                assert!(unpack_entry(mode, &bytes[..length]).is_bare_if_refused());
-            }
-            for ones in 0..=32u32 {
-                // the largest number of so many bits
-                let number = ((1u64 << ones) - 1) as u32;
-                for flags in 0..8 {
-                    let (flip_h, flip_v, priority) = (flags & 1 != 0, flags & 2 != 0, flags & 4 != 0);
-                    for (tile, palette) in [(number, 0), (0, number), (number, number)] {
-                        let entry = crate::Entry { tile, palette, flip_h, flip_v, priority };
-                        for room in 0..3 {
-                            let mut out = vec![0xa5; room];
-                            assert!(pack_entry(mode, entry, &mut out).is_bare_if_refused());
-                            assert!(tile_index(mode, entry, &mut out).is_bare_if_refused());
-                        }
-                        assert!(attribute(mode, entry).is_bare_if_refused());
-                    }
-                }
-            }
-        }
+    /// The set, of a call to which this one came.
+    #[inline]
+    pub(crate) fn set(self, came: Set) -> Result<Set, Refusal> {
+        debug_assert!(self.is_as_it_came_if_refused(came));
+        done(self.refusal)?;
+        Ok(self.set)
     }
 }
+
+impl Place {
+    /// Nothing else where it is refused, nor where nothing is found.
+    fn is_bare_unless_found(&self) -> bool {
+        let set = self.place != 0 || self.flip_h || self.flip_v;
+        if self.found { self.refusal == 0 } else { !set }
+    }
+
+    /// The place, or nothing.
+    #[inline]
+    pub(crate) fn place(self) -> Result<Option<crate::Place>, Refusal> {
+        debug_assert!(self.is_bare_unless_found());
+        done(self.refusal)?;
+        let Place { place, flip_h, flip_v, .. } = self;
+        Ok(self.found.then_some(crate::Place { place: Logical(place), flip_h, flip_v }))
+    }
+}
+
+#[cfg(test)]
+mod tests;

@@ -4,6 +4,8 @@
 //! panics, the difference is asserted as such; `DIFFERENCES` has the smallest input of each kind.
 
 mod common;
+#[path = "comparison/sets.rs"]
+mod sets;
 #[path = "comparison/tiles.rs"]
 mod tiles;
 
@@ -23,7 +25,7 @@ fn the_port_and_the_rust() {
     if !superfamiconv::PRESENT {
         return say(&format!("comparison with the Rust {}", superfamiconv::ABSENT));
     }
-    let parts: [Part; 18] = [
+    let parts: [Part; 26] = [
         ("modes", modes),
         ("single-bit tiles, both ways", tiles::single_bit_tiles),
         ("random tiles, both ways", tiles::random_tiles),
@@ -41,7 +43,15 @@ fn the_port_and_the_rust() {
         ("random entries", random_entries),
         ("entries of every length", entries_of_every_length),
         ("entries in pce_sprite", entries_in_pce_sprite),
-        ("known differences", known_differences),
+        ("runs of adds and look-ups, sets written", sets::runs_of_adds),
+        ("thousands of adds", sets::thousands_of_adds),
+        ("every pattern looked up in every other", sets::every_pattern),
+        ("sets of every count, written and read", sets::sets_of_every_count),
+        ("sets of every number of cells", sets::sets_of_every_number_of_cells),
+        ("sets of every length", sets::sets_of_every_length),
+        ("full sets", sets::full_sets),
+        ("every tile number", sets::every_tile_number),
+        ("known differences", || known_differences() + sets::known_differences()),
     ];
     let mut sum = 0;
     for (name, part) in parts {

@@ -2,6 +2,8 @@
 //! compared.
 
 mod common;
+#[path = "document/sets.rs"]
+mod sets;
 #[path = "document/tiles.rs"]
 mod tiles;
 

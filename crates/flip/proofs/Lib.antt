@@ -1,3 +1,4 @@
 pub mod Group
+pub mod Eights
 pub mod Rows
 pub mod Equivalence

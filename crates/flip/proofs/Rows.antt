@@ -69,13 +69,13 @@ module _ (f : Flip) (w h at : ℕ) (store tile : List ℕ) (c : Compares store a
 
   pub row-differs : (y : ℕ) → y < h → RowAs (f .h) store (rowFrom y) tile (y * w) w false → same (flipped f w h there) tile ≡ false
   row-differs y p d =
-      let i = y * w + d .0 in
-      let q : i < w * h = place-lt w h y (d .0) p (d .1) in
       ne-same (flipped f w h there) tile
-      (λ e. d .2
-      (ap (λ (k : ℕ). getD store k 0) (row-place y (d .0) (d .1))
-      ∙ sym (there-at i q)
-      ∙ sym (flipped-at f w h there i q)
+      (λ e. d (λ x q.
+      let i = y * w + x in
+      let r : i < w * h = place-lt w h y x p q in
+      ap (λ (k : ℕ). getD store k 0) (row-place y x q)
+      ∙ sym (there-at i r)
+      ∙ sym (flipped-at f w h there i r)
       ∙ ap (λ (l : List ℕ). getD l i 0) e))
 
 -- what comparing a row told, at the place and for the answer that are meant

@@ -4,7 +4,7 @@ ghost use Prim.Native.Nat.{_+_, _*_, _<_, _≤_};
 ghost use lib.ListN.{length, take, drop};
 ghost use Rattle.words.specs.Bytes.{same};
 ghost use Rattle.flip.specs.Flips.{turned, flipped};
-ghost use Rattle.flip.specs.Matching.{matchFlip, RowAs, Compares};
+ghost use Rattle.flip.specs.Matching.{matchFlip, RowAs, Compares, ComparesRow, Eight, eightFrom};
 
 // Which way a tile is turned: h reverses each row, v the order of rows.
 pub struct Flip {
@@ -29,18 +29,62 @@ fn turned(on: bool, n: usize, x: usize) -> usize
     x
 }
 
-// Whether a row of the tile, from place i on, is the store's row from place from on, turned or not.
+fn wide(b: u8) -> u64
+    ensures { λ r. ⌜ (r ≡ b) × (r < 256) ⌝ }
+{
+    b as u64
+}
+
+// Eight bytes as one number, the first the least.
+fn word(a: u64, b: u64, c: u64, d: u64, e: u64, f: u64, g: u64, h: u64) -> u64
+    requires { ⌜ (a < 256) × (b < 256) × (c < 256) × (d < 256) × (e < 256) × (f < 256) × (g < 256) × (h < 256) ⌝ }
+    ensures { λ r. ⌜ r ≡ a + 256 * (b + 256 * (c + 256 * (d + 256 * (e + 256 * (f + 256 * (g + 256 * h)))))) ⌝ }
+{
+    a + 256 * (b + 256 * (c + 256 * (d + 256 * (e + 256 * (f + 256 * (g + 256 * h))))))
+}
+
+// Eight pixels as one number, which compiles to one load: from the other end where the flip is on.
+fn eight(s: &[u8], at: usize, across: bool) -> u64
+    requires { ⌜ at + 8 ≤ length (now s) ⌝ }
+    ensures { λ r. ⌜ Eight across (now (s .entry)) at r ⌝ }
+{
+    let a = wide(s[at]);
+    let b = wide(s[at + 1]);
+    let c = wide(s[at + 2]);
+    let d = wide(s[at + 3]);
+    let e = wide(s[at + 4]);
+    let f = wide(s[at + 5]);
+    let g = wide(s[at + 6]);
+    let h = wide(s[at + 7]);
+    if across {
+        return word(h, g, f, e, d, c, b, a);
+    }
+    word(a, b, c, d, e, f, g, h)
+}
+
+// Where the eight pixels at place x of a row of so many stand in the row, turned or not.
+fn eight_from(across: bool, width: usize, x: usize) -> usize
+    requires { ⌜ x + 8 ≤ width ⌝ }
+    ensures { λ r. ⌜ (r ≡ eightFrom across width x) × (r + 8 ≤ width) ⌝ }
+{
+    if across {
+        return width - 8 - x;
+    }
+    x
+}
+
+// Whether a row of the tile, from place i on, is the store's row from place from on, turned or not: eight pixels at a time.
 fn same_row(store: &[u8], from: usize, tile: &[u8], i: usize, width: usize, across: bool) -> bool
-    requires { ⌜ (from + width ≤ length (now store)) × (i + width ≤ length (now tile)) ⌝ }
+    requires { ⌜ ComparesRow (now store) from (now tile) i width ⌝ }
     ensures { λ r. ⌜ RowAs across (now (store .entry)) from (now (tile .entry)) i width r ⌝ }
 {
     let mut x = 0;
     while x < width {
-        let j = from + turned(across, width, x);
-        if store[j] != tile[i + x] {
+        let stored = eight(store, from + eight_from(across, width, x), across);
+        if stored != eight(tile, i + x, false) {
             return false;
         }
-        x += 1;
+        x += 8;
     }
     true
 }

@@ -2,9 +2,9 @@
 -- Assumes nothing.
 use mathlib.Core.Bool.{Bool, true, false, _&&_}
 use mathlib.Core.List.{List, [], _∷_, _++_}
-use Prim.Native.Nat.{ℕ}
+use Prim.Native.Nat.{ℕ, _/_}
 use lib.Dec.{T, eqb}
-use lib.ListN.{replicate}
+use lib.ListN.{length, replicate}
 use Rattle.words.specs.Bytes.{same}
 use Rattle.mode.specs.Table.{row}
 use Rattle.color.specs.Color as color
@@ -12,6 +12,11 @@ use Rattle.mapentry.specs.Entry as entry
 use Rattle.tile.specs.Bits.{fromBits, table}
 use Rattle.tile.specs.Layout.{spread}
 use Rattle.tile.specs.Tile as tile
+use Rattle.tileset.specs.Sets.{newSet, withCounts, roomOf, setSays, heldSays}
+use Rattle.tileset.specs.Numbers.{startsAt, belongsTo, firstCell, tileOf, gridSays, nativeSays, logicalSays}
+use Rattle.tileset.specs.Writing.{paddedCells, cellCount, cornerOf, cellPixels, setBytes, writeSize, writeSays}
+use Rattle.tileset.specs.Reading.{wholeTiles, readCount, readableSays, readSays}
+use Rattle.tileset.specs.declared.Set.{Set}
 use Rattle.rumchivoat.specs.Station.{entryFrom}
 
 -- What a call answers and writes, and what document 01 has.
@@ -50,6 +55,17 @@ refuses m t p h v q refusal =
 gray : ℕ → List ℕ → List ℕ
 gray g rest = g ∷ g ∷ g ∷ 255 ∷ rest
 
+-- a number that a call answers
+answers : ℕ → ℕ → ℕ → Example
+answers says value expected = record { says = says; bytes = value ∷ []; refusal = 0; expected = expected ∷ [] }
+
+-- nine snes tiles of 16x16, depth 2, blank
+nine : Set
+nine = withCounts (newSet 0 2 16 16 false false 0) 9 0
+
+blanks : List ℕ
+blanks = replicate 2304 0
+
 pub examples : List Example
 examples =
     -- (a) snes depth 2, first row 0 1 2 3 0 1 2 3, else 0: 55 33, fourteen 00
@@ -77,6 +93,11 @@ examples =
     ∷ packs 9 4095 15 false false false (0xff ∷ 0xff ∷ [])
     ∷ refuses 9 4096 15 false false false 10
     ∷ refuses 9 4095 15 true false false 10
+    -- (l) snes 16x16: tile 8 at 32, cell 33 in tile 8; nine tiles write 64 cells and read as 16
+    ∷ answers (nativeSays 0 16 16 8) (firstCell 0 16 16 8) 32
+    ∷ answers (logicalSays 0 16 16 33) (tileOf 0 16 16 33) 8
+    ∷ answers (writeSays nine blanks 1024) (length (setBytes nine blanks) / 16) 64
+    ∷ answers (readSays 0 2 16 16 1024 4096) (readCount 0 2 16 16 1024) 16
     ∷ []
 
 pub holds : List Example → Bool
@@ -84,5 +105,5 @@ holds [] = true
 holds (e ∷ es) = (eqb (e .says) (e .refusal) && same (e .bytes) (e .expected)) && holds es
 
 pub examples-hold : T (holds examples)
-unfolding holds examples tiles stripes oneTwo spread table fromBits tile.packingOf tile.packSays colors packs refuses gray row color.coloring color.packed color.packSays entry.layout entry.entrySays entry.packSays
+unfolding holds examples tiles stripes oneTwo spread table fromBits tile.packingOf tile.packSays colors packs refuses gray row color.coloring color.packed color.packSays entry.layout entry.entrySays entry.packSays answers nine blanks roomOf setSays heldSays startsAt belongsTo gridSays nativeSays logicalSays paddedCells cellCount cornerOf cellPixels setBytes writeSize writeSays wholeTiles readableSays readSays
 examples-hold = tt

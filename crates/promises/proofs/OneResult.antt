@@ -24,6 +24,22 @@ use Rattle.rumchivoat.proofs.rumchivoat_tile_index.Reads as tile-index
 use Rattle.rumchivoat.proofs.rumchivoat_tile_index.Kinds as tile-index-kinds
 use Rattle.rumchivoat.proofs.rumchivoat_attribute.Reads as attribute
 use Rattle.rumchivoat.proofs.rumchivoat_attribute.Kinds as attribute-kinds
+use Rattle.rumchivoat.proofs.rumchivoat_set_new.Reads as set-new
+use Rattle.rumchivoat.proofs.rumchivoat_set_new.Kinds as set-new-kinds
+use Rattle.rumchivoat.proofs.rumchivoat_set_reset.Reads as set-reset
+use Rattle.rumchivoat.proofs.rumchivoat_set_reset.Kinds as set-reset-kinds
+use Rattle.rumchivoat.proofs.rumchivoat_set_look_up.Reads as set-look-up
+use Rattle.rumchivoat.proofs.rumchivoat_set_look_up.Kinds as set-look-up-kinds
+use Rattle.rumchivoat.proofs.rumchivoat_set_add.Reads as set-add
+use Rattle.rumchivoat.proofs.rumchivoat_set_add.Kinds as set-add-kinds
+use Rattle.rumchivoat.proofs.rumchivoat_set_write.Reads as set-write
+use Rattle.rumchivoat.proofs.rumchivoat_set_write.Kinds as set-write-kinds
+use Rattle.rumchivoat.proofs.rumchivoat_set_read.Reads as set-read
+use Rattle.rumchivoat.proofs.rumchivoat_set_read.Kinds as set-read-kinds
+use Rattle.rumchivoat.proofs.rumchivoat_native_number.Reads as native-number
+use Rattle.rumchivoat.proofs.rumchivoat_native_number.Kinds as native-number-kinds
+use Rattle.rumchivoat.proofs.rumchivoat_logical_number.Reads as logical-number
+use Rattle.rumchivoat.proofs.rumchivoat_logical_number.Kinds as logical-number-kinds
 
 pub pack-tile-result : OneResult 2 pack-tile-kinds.ps pack-tile-kinds.r pack-tile.Post
 pack-tile-result κs a x y s t p q = one-answer p q
@@ -72,3 +88,36 @@ tile-index-content κs a x y s t p q = one-content p q
 
 pub attribute-result : OneResult 0 attribute-kinds.ps attribute-kinds.r attribute.Post
 attribute-result κs a x y s t p q = p ∙ sym q
+
+pub set-new-result : OneResult 0 set-new-kinds.ps set-new-kinds.r set-new.Post
+set-new-result κs a x y s t p q = p ∙ sym q
+
+pub set-reset-result : OneResult 0 set-reset-kinds.ps set-reset-kinds.r set-reset.Post
+set-reset-result κs a x y s t p q = p ∙ sym q
+
+pub set-look-up-result : OneResult 2 set-look-up-kinds.ps set-look-up-kinds.r set-look-up.Post
+set-look-up-result κs a x y s t p q = p ∙ sym q
+
+pub set-add-result : OneResult 2 set-add-kinds.ps set-add-kinds.r set-add.Post
+set-add-result κs a x y s t p q = p .answer ∙ sym (q .answer)
+
+pub set-add-content : OneContent 2 set-add-kinds.ps set-add-kinds.r set-add.Post (λ κs s. now (s .1 .0))
+set-add-content κs a x y s t p q = p .lent ∙ sym (q .lent)
+
+pub set-write-result : OneResult 2 set-write-kinds.ps set-write-kinds.r set-write.Post
+set-write-result κs a x y s t p q = one-answer p q
+
+pub set-write-content : OneContent 2 set-write-kinds.ps set-write-kinds.r set-write.Post (λ κs s. now (s .1 .1 .0))
+set-write-content κs a x y s t p q = one-content p q
+
+pub set-read-result : OneResult 2 set-read-kinds.ps set-read-kinds.r set-read.Post
+set-read-result κs a x y s t p q = p .answer ∙ sym (q .answer)
+
+pub set-read-content : OneContent 2 set-read-kinds.ps set-read-kinds.r set-read.Post (λ κs s. now (s .1 .1 .1 .1 .1 .1 .0))
+set-read-content κs a x y s t p q = p .lent ∙ sym (q .lent)
+
+pub native-number-result : OneResult 0 native-number-kinds.ps native-number-kinds.r native-number.Post
+native-number-result κs a x y s t p q = p ∙ sym q
+
+pub logical-number-result : OneResult 0 logical-number-kinds.ps logical-number-kinds.r logical-number.Post
+logical-number-result κs a x y s t p q = p ∙ sym q

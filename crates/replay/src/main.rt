@@ -4,6 +4,10 @@ use color::Rounding;
 use libc::STDIN_FILENO;
 use libc::STDOUT_FILENO;
 use mapentry::Mapentry;
+use tileset::Logical;
+use tileset::Native;
+use tileset::Place;
+use tileset::Set;
 use words::Number;
 use words::Written;
 ghost use Prim.Native.Nat.{_+_, _^_, _<_, _≤_};
@@ -255,6 +259,178 @@ fn read_agrees(line: &[u8]) -> bool {
     r.priority == e.priority
 }
 
+// Whether a look-up gave the Rust's answer: a place, 255 for nothing, and 1 for h, 2 for v.
+fn found(r: Place, place: u8, flip: u8) -> bool {
+    if r.refusal != 0 {
+        return false;
+    }
+    if !r.found {
+        return place == 255;
+    }
+    if r.place != words::wide(place) {
+        return false;
+    }
+    if r.flip_h != (flip % 2 == 1) {
+        return false;
+    }
+    r.flip_v == (1 < flip)
+}
+
+// A run so far, and whether it is the Rust's.
+struct Run {
+    pub agrees: bool,
+    pub set: Set,
+}
+
+// The run with one tile more, looked up and added: of the Rust's three bytes the third is how many tiles are stored then.
+fn one_more(set: Set, store: &mut [u8], tile: &[u8], answer: &[u8]) -> Run
+    requires { ⌜ 3 ≤ length (now answer) ⌝ }
+{
+    let place = tileset::look_up(set, store, tile);
+    let next = tileset::add(set, store, tile);
+    let after = next.set;
+    if next.refusal != 0 {
+        return Run { agrees: false, set };
+    }
+    if after.stored != words::wide(answer[2]) {
+        return Run { agrees: false, set };
+    }
+    Run {
+        agrees: found(place, answer[0], answer[1]),
+        set: after,
+    }
+}
+
+// The run of tiles of n pixels, each with its three bytes.
+fn run_of(set: Set, store: &mut [u8], tiles: &[u8], n: usize, answers: &[u8]) -> Run
+    requires { ⌜ 0 < n ⌝ }
+{
+    let mut r = Run { agrees: true, set };
+    let mut at: usize = 0;
+    let mut k: usize = 0;
+    while n <= tiles.len() - at {
+        if answers.len() - k < 3 {
+            return Run { agrees: false, set };
+        }
+        let end = at + n;
+        let next = k + 3;
+        let before = r.set;
+        r = one_more(before, store, &tiles[at..end], &answers[k..next]);
+        if !r.agrees {
+            return r;
+        }
+        at = end;
+        k = next;
+    }
+    r
+}
+
+// Every tile that was given is stored or discarded.
+fn all_counted(set: Set, tiles: usize) -> bool {
+    (set.stored as usize) + (set.discarded as usize) == tiles
+}
+
+// Whether the set that a line tells of gives these answers to the tiles, and then these bytes.
+fn run_agrees(line: &[u8], answers: &[u8], tiles: &[u8], expected: &[u8]) -> bool {
+    let count = answers.len() / 3;
+    if count == 0 {
+        return false;
+    }
+    let n = tiles.len() / count;
+    if n == 0 {
+        return false;
+    }
+    let new = tileset::set_new(
+        number_field(line, 1),
+        number_field(line, 2),
+        number_field(line, 3),
+        number_field(line, 4),
+        flag_field(line, 5),
+        flag_field(line, 6),
+        0,
+    );
+    if new.refusal != 0 {
+        return false;
+    }
+    let set = new.set;
+    let mut store = [NOISE; 4096];
+    let r = run_of(set, &mut store, tiles, n, answers);
+    if !r.agrees {
+        return false;
+    }
+    let done = r.set;
+    if !all_counted(done, count) {
+        return false;
+    }
+    let mut out = [NOISE; 4096];
+    let w = tileset::write(done, &store, &mut out);
+    wrote(w, &out, expected)
+}
+
+fn set_agrees(line: &[u8]) -> bool {
+    let mut answers = [0u8; 64];
+    let mut tiles = [0u8; 4096];
+    let mut expected = [0u8; 2048];
+    let a = bytes_field(line, 7, &mut answers);
+    let t = bytes_field(line, 8, &mut tiles);
+    let k = bytes_field(line, 9, &mut expected);
+    run_agrees(line, &answers[..a], &tiles[..t], &expected[..k])
+}
+
+fn cells_agree(line: &[u8]) -> bool {
+    let mut given = [0u8; 512];
+    let mut expected = [0u8; 1024];
+    let mut store = [NOISE; 2048];
+    let n = bytes_field(line, 5, &mut given);
+    let k = bytes_field(line, 7, &mut expected);
+    let r = tileset::read(
+        number_field(line, 1),
+        number_field(line, 2),
+        number_field(line, 3),
+        number_field(line, 4),
+        true,
+        &given[..n],
+        &mut store,
+    );
+    let set = r.set;
+    if set.stored != number_field(line, 6) {
+        return false;
+    }
+    let w = Written {
+        refusal: r.refusal,
+        written: k,
+    };
+    wrote(w, &store, &expected[..k])
+}
+
+fn native_agrees(line: &[u8]) -> bool {
+    let tile = Logical(number_field(line, 4));
+    let r = tileset::native_number(
+        number_field(line, 1),
+        number_field(line, 2),
+        number_field(line, 3),
+        tile,
+    );
+    if r.refusal != 0 {
+        return false;
+    }
+    r.number.0 == number_field(line, 5)
+}
+
+fn logical_agrees(line: &[u8]) -> bool {
+    let cell = Native(number_field(line, 4));
+    let r = tileset::logical_number(
+        number_field(line, 1),
+        number_field(line, 2),
+        number_field(line, 3),
+        cell,
+    );
+    if r.refusal != 0 {
+        return false;
+    }
+    r.number.0 == number_field(line, 5)
+}
+
 fn gave(r: Number, expected: u32) -> bool {
     if r.refusal != 0 {
         return false;
@@ -275,6 +451,10 @@ fn named(kind: u32, word: &[u8]) -> bool {
         7 => words::same_bytes(word, b"attribute"),
         8 => words::same_bytes(word, b"tile"),
         9 => words::same_bytes(word, b"pixels"),
+        10 => words::same_bytes(word, b"set"),
+        11 => words::same_bytes(word, b"cells"),
+        12 => words::same_bytes(word, b"native"),
+        13 => words::same_bytes(word, b"logical"),
         _ => words::same_bytes(word, b"#"),
     }
 }
@@ -291,6 +471,10 @@ fn print_kind(kind: u32) {
         7 => print(b"attribute"),
         8 => print(b"tile"),
         9 => print(b"pixels"),
+        10 => print(b"set"),
+        11 => print(b"cells"),
+        12 => print(b"native"),
+        13 => print(b"logical"),
         _ => print(b"comments"),
     }
 }
@@ -307,6 +491,10 @@ fn agrees(kind: u32, line: &[u8]) -> bool {
         7 => attribute_agrees(line),
         8 => tile_agrees(line),
         9 => pixels_agree(line),
+        10 => set_agrees(line),
+        11 => cells_agree(line),
+        12 => native_agrees(line),
+        13 => logical_agrees(line),
         _ => true,
     }
 }
@@ -415,7 +603,7 @@ fn report(s: &[u8])
     requires { ⌜ length (now s) ≤ 262144 ⌝ }
 {
     let mut kind: u32 = 0;
-    while kind < 11 {
+    while kind < 15 {
         report_kind(s, kind);
         kind += 1;
     }

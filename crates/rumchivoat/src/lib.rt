@@ -2,6 +2,11 @@
 use color::Rounding;
 use mapentry::Entry;
 use mapentry::Mapentry;
+use tileset::Logical;
+use tileset::Native;
+use tileset::Place;
+use tileset::Set;
+use tileset::SetAnswer;
 use words::Number;
 use words::Written;
 ghost use mathlib.Core.Path.{_≡_};
@@ -12,6 +17,12 @@ ghost use Rattle.color.specs.Color.{packSays, packed, unpackSays, unpacked};
 ghost use Rattle.color.specs.Channel.{modeSays, reduced, scaleSays, scaledUp};
 ghost use Rattle.mapentry.specs.Entry as entry;
 ghost use Rattle.tile.specs.Tile as tile;
+ghost use Rattle.tileset.specs.Sets.{setSays, lookSays, answered, newSet, noSet, emptied};
+ghost use Rattle.tileset.specs.Finding.{placed, foundIn};
+ghost use Rattle.tileset.specs.Adding.{addSays, added, storeWith, Adds};
+ghost use Rattle.tileset.specs.Writing.{writeSays, setBytes};
+ghost use Rattle.tileset.specs.Reading.{Reads};
+ghost use Rattle.tileset.specs.Numbers.{nativeSays, firstCell, logicalSays, tileOf};
 ghost use Rattle.rumchivoat.specs.Station.{roundingOf, entryFrom};
 
 #[no_mangle]
@@ -149,4 +160,94 @@ pub extern "C" fn rumchivoat_attribute(
     ensures { λ r. ⌜ r ≡ numbered (entry.entrySays mode (entryFrom tile palette «flip_h» «flip_v» priority)) (entry.attributeOf mode (entryFrom tile palette «flip_h» «flip_v» priority)) ⌝ }
 {
     mapentry::get_attribute(mode, entry_from(tile, palette, flip_h, flip_v, priority))
+}
+
+#[no_mangle]
+pub extern "C" fn rumchivoat_set_new(
+    mode: u32,
+    depth: u32,
+    width: u32,
+    height: u32,
+    flips: bool,
+    discarding: bool,
+    limit: u32,
+) -> SetAnswer
+    ensures { λ r. ⌜ r ≡ answered (setSays mode depth width height) (newSet mode depth width height flips discarding limit) noSet ⌝ }
+{
+    tileset::set_new(mode, depth, width, height, flips, discarding, limit)
+}
+
+#[no_mangle]
+pub extern "C" fn rumchivoat_set_reset(set: Set) -> SetAnswer
+    ensures { λ r. ⌜ r ≡ answered (setSays (set .mode) (set .depth) (set .width) (set .height)) (emptied set) set ⌝ }
+{
+    tileset::set_reset(set)
+}
+
+#[no_mangle]
+pub extern "C" fn rumchivoat_set_look_up(set: Set, store: &[u8], pixels: &[u8]) -> Place
+    ensures { λ r. ⌜ r ≡ placed (lookSays set (length (now (store .entry))) (length (now (pixels .entry)))) (foundIn set (now (store .entry)) (now (pixels .entry))) ⌝ }
+{
+    tileset::look_up(set, store, pixels)
+}
+
+#[no_mangle]
+pub extern "C" fn rumchivoat_set_add(set: Set, store: &mut [u8], pixels: &[u8]) -> SetAnswer
+    ensures { λ r. ⌜ Adds (addSays set (now (store .entry)) (now (pixels .entry))) set (added set (now (store .entry)) (now (pixels .entry))) (now (store .entry)) (storeWith set (now (store .entry)) (now (pixels .entry))) r (now (store .exit)) ⌝ }
+{
+    tileset::add(set, store, pixels)
+}
+
+#[no_mangle]
+pub extern "C" fn rumchivoat_set_write(set: Set, store: &[u8], out: &mut [u8]) -> Written
+    ensures { λ r. ⌜ Wrote (writeSays set (now (store .entry)) (length (now (out .entry)))) (setBytes set (now (store .entry))) (now (out .entry)) r (now (out .exit)) ⌝ }
+{
+    tileset::write(set, store, out)
+}
+
+#[no_mangle]
+pub extern "C" fn rumchivoat_set_read(
+    mode: u32,
+    depth: u32,
+    width: u32,
+    height: u32,
+    flips: bool,
+    bytes: &[u8],
+    store: &mut [u8],
+) -> SetAnswer
+    ensures { λ r. ⌜ Reads mode depth width height flips (now (bytes .entry)) (now (store .entry)) r (now (store .exit)) ⌝ }
+{
+    tileset::read(mode, depth, width, height, flips, bytes, store)
+}
+
+#[no_mangle]
+pub extern "C" fn rumchivoat_native_number(
+    mode: u32,
+    width: u32,
+    height: u32,
+    logical: u32,
+) -> Number
+    ensures { λ r. ⌜ r ≡ numbered (nativeSays mode width height logical) (firstCell mode width height logical) ⌝ }
+{
+    let answer = tileset::native_number(mode, width, height, Logical(logical));
+    Number {
+        refusal: answer.refusal,
+        value: answer.number.0,
+    }
+}
+
+#[no_mangle]
+pub extern "C" fn rumchivoat_logical_number(
+    mode: u32,
+    width: u32,
+    height: u32,
+    native: u32,
+) -> Number
+    ensures { λ r. ⌜ r ≡ numbered (logicalSays mode width height native) (tileOf mode width height native) ⌝ }
+{
+    let answer = tileset::logical_number(mode, width, height, Native(native));
+    Number {
+        refusal: answer.refusal,
+        value: answer.number.0,
+    }
 }

@@ -1,16 +1,21 @@
 -- The laws of document 01's "Sets and whole tiles", as a reader wants them.
 -- Assumes nothing.
-use mathlib.Core.Path.{_≡_, refl}
-use mathlib.Core.Bool.{true, false}
+use mathlib.Core.Path.{_≡_, refl, ap}
+use mathlib.Core.Bool.{Bool, true, false}
 use mathlib.Core.List.{List, []}
-use Prim.Native.Nat.{ℕ, _+_}
+use Prim.Native.Nat.{ℕ, _+_, _-_, _*_, _/_, _<_, _≤_}
+use native.Mathlib.Nat.{mul-div-cancel}
 use native.Mathlib.Omega.{arith}
 use Rattle.tileset.specs.Sets.{emptied}
 use Rattle.tileset.specs.Finding.{tilesIn}
 use Rattle.tileset.specs.History.{setAtEnd, storeAtEnd, accepted, repeats, tilesOf, Apart}
-use Rattle.tileset.specs.Numbers.{startsAt, belongsTo, firstCell, tileOf}
+use Rattle.tileset.specs.Numbers.{rowCells, startsAt, belongsTo, firstCell, tileOf, Grid}
 use Rattle.tileset.specs.Writing.{paddedCells, cellCount}
+use Rattle.tileset.specs.Reading.{wholeTiles, readCount, readableSays, readSet}
 use Rattle.tileset.specs.declared.Set.{Set}
+use Rattle.tileset.proofs.Sizes.{set-of, grid-set}
+use Rattle.tileset.proofs.Reading.{readable-mode, readable-says-set, cells-before, tile-complete, next-incomplete}
+use Rattle.tileset.proofs.ReadBack.{single-tiles}
 use Rattle.tileset.proofs.Matched.{apart-none}
 use Rattle.tileset.proofs.History.{adds-sum, adds-repeats, adds-off, adds-apart}
 
@@ -36,6 +41,36 @@ module _ (z : Set) (store : List ℕ) (ps : List (List ℕ)) where
   unfolding tilesIn
   reset-apart on = adds-apart (emptied z) store ps on (apart-none (z .flips) (z .width) (z .height))
 
+-- "its sum starts from the count read": over any adds to a read set, with all its tiles in the store
+module _ (m d w h : ℕ) (flips : Bool) (count : ℕ) (store : List ℕ) (ps : List (List ℕ)) where
+  abbrev given : Set
+  given = readSet m d w h flips count
+
+  pub read-sum : setAtEnd given store ps .stored + setAtEnd given store ps .discarded ≡ count + accepted given store ps
+  read-sum = omega (arith, adds-sum given store ps)
+
+  -- "discarded is the number of those whose tile matched one read or accepted earlier"
+  pub read-repeats : setAtEnd given store ps .discarded ≡ repeats given store (tilesOf given store) ps
+  read-repeats = omega (arith, adds-repeats given store ps refl)
+
+-- at 8x8 every cell is a tile
+pub read-cells : (m d len : ℕ) → readCount m d 8 8 len ≡ len / (d * 8)
+read-cells m d len = single-tiles (rowCells m) (len / (d * 8))
+
+-- "Reading stops at the first incomplete tile"
+module _ (m d w h : ℕ) (z : readableSays m d w h ≡ 0) (len : ℕ) where
+  grid : Grid (rowCells m) (w / 8) (h / 8)
+  grid = grid-set (set-of m d w h (readable-says-set m d w h z)) (readable-mode m d w h z)
+
+  -- every cell of each tile that is read is there
+  pub read-complete : (n i j : ℕ) → n < readCount m d w h len → i < h / 8 → j < w / 8 → firstCell m w h n + i * rowCells m + j < len / (d * 8)
+  read-complete n i j lt hi hj =
+      omega (arith, cells-before (rowCells m) (w / 8) (h / 8) n i j hi hj, tile-complete (rowCells m) (w / 8) (h / 8) grid (len / (d * 8)) n lt)
+
+  -- and the last cell of the tile after them is not
+  pub read-stops : len / (d * 8) ≤ firstCell m w h (readCount m d w h len) + (h / 8 - 1) * rowCells m + (w / 8 - 1)
+  read-stops = next-incomplete (rowCells m) (w / 8) (h / 8) grid (len / (d * 8))
+
 -- "(l) snes 16x16: tile 8 at 32, cell 33 in tile 8"
 pub example-l-first : firstCell 0 16 16 8 ≡ 32
 unfolding startsAt
@@ -49,3 +84,8 @@ example-l-tile = refl
 pub example-l-cells : cellCount 0 16 16 9 ≡ 64
 unfolding cellCount paddedCells
 example-l-cells = refl
+
+-- "and read as 16", at any depth
+pub example-l-read : (d : ℕ) → 0 < d → readCount 0 d 16 16 (64 * (d * 8)) ≡ 16
+unfolding wholeTiles
+example-l-read d some = ap (λ (k : ℕ). wholeTiles 16 2 2 k) (mul-div-cancel 64 {n = d * 8} (omega arith))

@@ -9,3 +9,5 @@ pub mod History
 pub mod Laws
 pub mod Writing
 pub mod Written
+pub mod Reading
+pub mod ReadBack

@@ -28,7 +28,7 @@ next-given {n = suc n} ns e = absurd (suc-ne-zero n e)
 
 -- ---- answers
 
-abbrev setAnswer : ℕ → Set → SetAnswer
+abbrev pub setAnswer : ℕ → Set → SetAnswer
 setAnswer n set = record { refusal = n; set = set }
 
 pub refused-set : (n : ℕ) {k : ℕ} (next set : Set) → n ≡ k → (n ≡ 0 → ⊥) → setAnswer n set ≡ answered k next set
@@ -137,6 +137,7 @@ looks-of z store pixels e =
     record {
       deep = set .deep;
       some = set .some;
+      eights = omega (arith, set .across);
       tall = set .tall;
       small = set .small;
       inside = le-div-iff-mul-le {k = area z} (mul-pos (set .some) (set .tall)) .0 (le-trans room (room-whole (z .limit) (length store / area z)));

@@ -49,6 +49,11 @@ unfolding row
 deep-in m d lt t =
     leb→le d 8 (each-at (row m .depths) (λ d. leb d 8) (all-at 16 (λ m. inEach (row m .depths) (λ d. leb d 8)) tt m lt) d t)
 
+pub bits-some : {m d w h : ℕ} → IsSet m d w h → 0 < d
+unfolding row
+bits-some {m} {d} s =
+    ltb→lt 0 d (each-at (row m .depths) (λ d. ltb 0 d) (all-at 16 (λ m. inEach (row m .depths) (λ d. ltb 0 d)) tt m (s .mode)) d (s .depth))
+
 sized-in : (m w h : ℕ) → m < 16 → T (isSize m w h) → T (sizeTest w h)
 sized-in m w h lt t =
     each-at (heights m) (sizeTest w)

@@ -65,6 +65,7 @@ pub record Cuts (depth : ℕ) (pixels out : List ℕ) (at : ℕ) : Type 0 where
 
 pub record Finds (store : List ℕ) (count : ℕ) (tile : List ℕ) (w h : ℕ) : Type 0 where
   pub some : 0 < w
+  pub eights : w % 8 ≡ 0
   pub small : w * h ≤ 4096
   pub inside : count * (w * h) ≤ length store
   pub whole : length tile ≡ w * h
@@ -72,6 +73,7 @@ pub record Finds (store : List ℕ) (count : ℕ) (tile : List ℕ) (w h : ℕ) 
 pub record Looks (z : Set) (store pixels : List ℕ) : Type 0 where
   pub deep : z .depth ≤ 8
   pub some : 0 < z .width
+  pub eights : z .width % 8 ≡ 0
   pub tall : 0 < z .height
   pub small : area z ≤ 4096
   pub inside : z .stored * area z ≤ length store

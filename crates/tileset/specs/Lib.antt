@@ -4,3 +4,4 @@ pub mod Adding
 pub mod History
 pub mod Numbers
 pub mod Writing
+pub mod Reading

@@ -2,7 +2,9 @@
 //!
 //! `cargo run --release --offline --bin bench` in host/. For each call and mode it prints the median time of one colour,
 //! entry or tile on either side, and the ratio: above 1 the port is the faster. Tiles are of each depth, sprites of the
-//! smallest and the largest size.
+//! smallest and the largest size; of a set, one add or one look-up.
+
+mod sets;
 
 use std::fs;
 use std::hint::black_box;
@@ -45,7 +47,7 @@ fn main() {
         return println!("benchmark {}", superfamiconv::ABSENT);
     }
     println!("{}; median of {RUNS} runs, ns for one colour, entry or tile\n", processor());
-    println!("{:<14} {:<18} {:>5} {:>9} {:>9} {:>10}", "call", "mode", "items", "port", "Rust", "Rust/port");
+    println!("{:<14} {:<19} {:>5} {:>9} {:>9} {:>10}", "call", "mode", "items", "port", "Rust", "Rust/port");
     let mut random = Random::new(1);
     let mut table = Vec::new();
     for measure in [pack_colors, unpack_colors, pack_entries, unpack_entries] {
@@ -61,13 +63,14 @@ fn main() {
             table.push(line);
         }
     }
+    table.extend(sets::lines(&mut random).inspect(print_line));
     let slowest = table.iter().min_by(|a, b| a.ratio().total_cmp(&b.ratio())).expect("the table has lines");
     println!("\nleast ratio: {:.2}, {} in {}", slowest.ratio(), slowest.call, slowest.mode);
 }
 
 fn print_line(line: &Measured) {
     let Measured { call, mode, items, port, rust } = line;
-    println!("{call:<14} {mode:<18} {items:>5} {port:>9.3} {rust:>9.3} {:>10.2}", line.ratio());
+    println!("{call:<14} {mode:<19} {items:>5} {port:>9.3} {rust:>9.3} {:>10.2}", line.ratio());
 }
 
 /// The processor, as Linux tells it.
@@ -92,7 +95,8 @@ fn nanoseconds(times: usize, call: &mut impl FnMut()) -> f64 {
 
 /// How many calls fill a run; the first calls also warm the caches.
 fn times_for_a_run(call: &mut impl FnMut()) -> usize {
-    let one = nanoseconds(64, call).max(1.0);
+    let first = nanoseconds(1, call);
+    let one = nanoseconds(if first < RUN_NANOSECONDS { 64 } else { 1 }, call).max(1.0);
     (RUN_NANOSECONDS / one).ceil() as usize
 }
 

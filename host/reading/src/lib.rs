@@ -9,6 +9,7 @@ mod colors;
 mod entries;
 mod modes;
 mod random;
+mod sets;
 mod tiles;
 
 pub use channel::{reduce_channel, scale_up};
@@ -16,6 +17,10 @@ pub use colors::{pack_colors, packed_length, unpack_colors, unpacked_count};
 pub use entries::{Entry, attribute, pack_entry, tile_index, unpack_entry};
 pub use modes::{MODES, Row, row};
 pub use random::Random;
+pub use sets::{
+    Place, Set, flipped, logical_number, native_number, set_add, set_look_up, set_new, set_read, set_reset, set_shapes,
+    set_sizes, set_write,
+};
 pub use tiles::{Shape, native_shapes, pack_tile, unpack_tile};
 
 /// A value, or the number of a refusal.

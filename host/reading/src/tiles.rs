@@ -16,7 +16,7 @@ pub struct Shape {
 }
 
 impl Shape {
-    /// The pixels of a native tile.
+    /// The pixels of a tile.
     pub fn pixels(self) -> usize {
         (self.width * self.height) as usize
     }
@@ -27,10 +27,13 @@ impl Shape {
     }
 }
 
-/// "8x8 .. in every mode but pce_sprite"; "pce_sprite: widths 16, 32, heights 16, 32, 64".
+/// "Pce_sprite: widths 16, 32, heights 16, 32, 64."
+pub(crate) const SPRITE_SIZES: [(u32, u32); 6] = [(16, 16), (16, 32), (16, 64), (32, 16), (32, 32), (32, 64)];
+
+/// "8x8 .. in every mode but pce_sprite."
 fn native_sizes(name: &str) -> &'static [(u32, u32)] {
     match name {
-        "pce_sprite" => &[(16, 16), (16, 32), (16, 64), (32, 16), (32, 32), (32, 64)],
+        "pce_sprite" => &SPRITE_SIZES,
         _ => &[(8, 8)],
     }
 }

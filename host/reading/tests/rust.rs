@@ -1,6 +1,6 @@
 //! The reading against the unchanged Rust, where document 01 answers 0: the reading is known good without the port.
 
-use reading::{Entry, MODES, Random, Row, Shape, native_shapes};
+use reading::{Entry, MODES, Random, Row, Set, Shape, native_shapes, set_shapes};
 use superfamiconv::plain;
 
 fn rows() -> impl Iterator<Item = (u32, &'static Row, plain::Mode)> {
@@ -132,6 +132,81 @@ fn entries() {
                 0 => {}
                 length => same_entry(mode, rust, &word.to_le_bytes()[..length]),
             }
+        }
+    }
+}
+
+/// A run of adds and look-ups in sets of the same settings, of tiles mirrored and made their own mirror images.
+fn same_run(shape: Shape, flips: bool, discarding: bool, random: &mut Random) {
+    let Shape { mode, depth, width, height } = shape;
+    let rust = plain::mode(mode);
+    let mut theirs = plain::tileset(rust, depth, width, height, flips, discarding, 0);
+    let mut store = vec![0; 20 * shape.pixels()];
+    let mut set = reading::set_new(shape, flips, discarding, 0).unwrap();
+    let mut tile = random.pixels(depth, shape.pixels());
+    for turn in 0..20 {
+        let image = reading::flipped(&tile, width, random.flag(), random.flag());
+        let symmetric = tile.iter().zip(&image).map(|(&one, &other)| one.max(other)).collect();
+        tile = match turn % 4 {
+            0 => random.bytes(shape.pixels()),
+            1 => symmetric,
+            _ => image,
+        };
+        let given = plain::image(width, height, &tile);
+        let found = reading::set_look_up(set, &store, &tile).unwrap();
+        let found = found.map(|place| (place.place, place.flip_h, place.flip_v));
+        assert_eq!(found, plain::look_up(&theirs, rust, depth, &given), "{set:?} {tile:?}");
+        set = reading::set_add(set, &mut store, &tile).unwrap();
+        plain::add(&mut theirs, &given).unwrap();
+        assert_eq!((set.stored, set.discarded), plain::counts(&theirs), "{set:?} {tile:?}");
+    }
+    assert!(store.starts_with(&plain::tile_pixels(&theirs)), "{set:?}");
+    same_written(set, &store, &theirs);
+}
+
+/// Written alike, and read alike but at depth 1, where the Rust panics.
+fn same_written(set: Set, store: &[u8], theirs: &plain::Tileset) {
+    let Shape { mode, depth, width, height } = set.shape;
+    let bytes = plain::to_native_data(theirs).unwrap();
+    let mut out = vec![0; bytes.len()];
+    assert_eq!(reading::set_write(set, store, &mut out), Ok(bytes.len()), "{set:?}");
+    assert!(out == bytes, "{set:?}");
+    if depth == 1 || MODES[mode as usize].name == "pce_sprite" {
+        return;
+    }
+    let back = plain::from_native_data(plain::mode(mode), depth, width, height, set.flips, &bytes).unwrap();
+    let pixels = plain::tile_pixels(&back);
+    let mut store = vec![0; pixels.len()];
+    let read = reading::set_read(set.shape, set.flips, &bytes, &mut store).unwrap();
+    assert_eq!((read.stored, read.discarded), plain::counts(&back), "{set:?}");
+    assert!(store == pixels, "{set:?}");
+}
+
+#[test]
+fn sets() {
+    if absent() {
+        return;
+    }
+    let mut random = Random::new(3);
+    for shape in set_shapes() {
+        for (flips, discarding) in [(false, false), (false, true), (true, false), (true, true)] {
+            same_run(shape, flips, discarding, &mut random);
+        }
+    }
+}
+
+#[test]
+fn tile_numbers() {
+    if absent() {
+        return;
+    }
+    for shape in set_shapes().filter(|shape| MODES[shape.mode as usize].name != "pce_sprite") {
+        let Shape { mode, width, height, .. } = shape;
+        for number in (0..1000).chain(64_000..=65_535) {
+            let native = plain::native_tile_index(plain::mode(mode), width, height, number);
+            assert_eq!(reading::native_number(mode, width, height, number), Ok(native), "{shape:?} {number}");
+            let logical = plain::logical_tile_index(plain::mode(mode), width, height, number);
+            assert_eq!(reading::logical_number(mode, width, height, number), Ok(logical), "{shape:?} {number}");
         }
     }
 }

@@ -3,6 +3,8 @@
 //! `cargo run --release --offline --bin sample` in host/. Every answer is the Rust's own; every input is one that
 //! document 01 answers with 0, as `reading` tells.
 
+mod sets;
+
 use std::process::ExitCode;
 
 use reading::{MODES, Random, Row, Shape, native_shapes};
@@ -21,7 +23,13 @@ const HEAD: &str = "\
 # index MODE TILE PALETTE H V PRIORITY BYTES   get_tile_index
 # attribute MODE TILE PALETTE H V PRIORITY VALUE   get_attribute
 # tile MODE DEPTH WIDTH HEIGHT PIXELS BYTES    pack_tile; a pixel is a byte
-# pixels MODE DEPTH WIDTH HEIGHT BYTES PIXELS  unpack_tile, but at depth 1, where the Rust panics";
+# pixels MODE DEPTH WIDTH HEIGHT BYTES PIXELS  unpack_tile, but at depth 1, where the Rust panics
+# set MODE DEPTH WIDTH HEIGHT FLIPS DISCARDING ANSWERS TILES BYTES   index_of, matching_flip and add of tile after tile in
+#   an empty set, then to_native_data; ANSWERS has three bytes a tile: its place before it is added, ff where nothing is
+#   found; 1 for h, 2 for v; how many tiles are stored when it is added
+# cells MODE DEPTH WIDTH HEIGHT BYTES STORED PIXELS   from_native_data, flips on, but at depth 1
+# native MODE WIDTH HEIGHT LOGICAL NATIVE      native_tile_index
+# logical MODE WIDTH HEIGHT NATIVE LOGICAL     logical_tile_index";
 
 /// Colours of a random case: with their bytes they stay below 160 digits.
 const MOST_COLORS: u32 = 12;
@@ -54,6 +62,9 @@ fn main() -> ExitCode {
             print(shape, &mut random);
         }
     }
+    sets::print_runs(&mut random);
+    sets::print_reads(&mut random);
+    sets::print_numbers();
     ExitCode::SUCCESS
 }
 

@@ -13,6 +13,12 @@ pub struct Color;
 #[derive(Clone, Copy)]
 pub struct Entry;
 
+/// The Rust's tile set.
+pub struct Tileset;
+
+/// The Rust's image.
+pub struct Image;
+
 fn absent() -> ! {
     panic!("{}", crate::ABSENT)
 }
@@ -86,5 +92,68 @@ pub fn get_tile_index(_mode: Mode, _entry: Entry) -> Vec<u8> {
 }
 
 pub fn get_attribute(_mode: Mode, _entry: Entry) -> u8 {
+    absent()
+}
+
+pub fn image(_width: u32, _height: u32, _pixels: &[u8]) -> Image {
+    absent()
+}
+
+pub fn tileset(
+    _mode: Mode,
+    _depth: u32,
+    _width: u32,
+    _height: u32,
+    _flips: bool,
+    _discarding: bool,
+    _limit: u32,
+) -> Tileset {
+    absent()
+}
+
+pub fn add(_set: &mut Tileset, _tile: &Image) -> Result<(), String> {
+    absent()
+}
+
+pub fn look_up(_set: &Tileset, _mode: Mode, _depth: u32, _tile: &Image) -> Option<(u32, bool, bool)> {
+    absent()
+}
+
+pub fn counts(_set: &Tileset) -> (u32, u32) {
+    absent()
+}
+
+pub fn with_discarded(_set: Tileset, _discarded: u32) -> Tileset {
+    absent()
+}
+
+pub fn tile_pixels(_set: &Tileset) -> Vec<u8> {
+    absent()
+}
+
+pub fn last_tile(_set: &Tileset) -> Vec<u8> {
+    absent()
+}
+
+pub fn to_native_data(_set: &Tileset) -> Result<Vec<u8>, String> {
+    absent()
+}
+
+pub fn from_native_data(
+    _mode: Mode,
+    _depth: u32,
+    _width: u32,
+    _height: u32,
+    _flips: bool,
+    _bytes: &[u8],
+) -> Result<Tileset, String> {
+    absent()
+}
+
+pub fn native_tile_index(_mode: Mode, _width: u32, _height: u32, _tile: u32) -> u32 {
+    absent()
+}
+
+pub fn logical_tile_index(_mode: Mode, _width: u32, _height: u32, _cell: u32) -> u32 {
     absent()
 }

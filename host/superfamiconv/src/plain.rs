@@ -1,9 +1,15 @@
-//! The Rust's calls, with modes by number and colours and entries made of plain numbers.
+//! The Rust's calls, with modes by number and colours, entries and tiles made of plain numbers.
+
+use std::collections::BTreeSet;
 
 use crate::color::{NormalizedColor, Rgba8888};
+use crate::dither::Dither;
 use crate::mode::color::{ColorRounding, ModeColor};
 use crate::mode::map::ModeMap;
 use crate::mode::tile::ModeTile;
+use crate::quant::Method;
+use crate::tile::Tile;
+use crate::tileset;
 
 /// The Rust's mode.
 pub type Mode = crate::mode::Mode;
@@ -13,6 +19,12 @@ pub type Color = crate::color::ReducedColor;
 
 /// The Rust's map entry.
 pub type Entry = crate::map::Mapentry;
+
+/// The Rust's tile set.
+pub type Tileset = tileset::Tileset;
+
+/// The Rust's image, of which a set's tile is made.
+pub type Image = crate::image::Image;
 
 /// The mode of a number, in document 01's order, which is the order of the Rust's variants.
 pub fn mode(number: u32) -> Mode {
@@ -126,4 +138,88 @@ pub fn get_tile_index(mode: Mode, entry: Entry) -> Vec<u8> {
 /// `ModeMap::get_attribute`.
 pub fn get_attribute(mode: Mode, entry: Entry) -> u8 {
     ModeMap::get_attribute(&mode, entry)
+}
+
+/// An image of so many pixels a row, which are the tile's.
+pub fn image(width: u32, height: u32, pixels: &[u8]) -> Image {
+    Image {
+        width,
+        height,
+        src_x: 0,
+        src_y: 0,
+        data: Vec::new(),
+        indexed_data: pixels.to_vec(),
+        palette: Vec::new(),
+        colors: BTreeSet::new(),
+    }
+}
+
+/// `Tileset::new`, of tiles that are taken as they are.
+pub fn tileset(mode: Mode, depth: u32, width: u32, height: u32, flips: bool, discarding: bool, limit: u32) -> Tileset {
+    let (no_discard, no_flip, no_remap) = (!discarding, !flips, true);
+    let (quant, dither, rounding) = (Method::Off, Dither::Off, ColorRounding::Truncate);
+    Tileset::new(mode, depth, width, height, no_discard, no_flip, no_remap, quant, dither, rounding, limit)
+}
+
+/// `Tileset::add`.
+#[inline]
+pub fn add(set: &mut Tileset, tile: &Image) -> Result<(), String> {
+    set.add(tile, None)
+}
+
+/// `Tileset::index_of` and `Tile::matching_flip`, as the Rust's `Map::add` has them: the place, flip h and flip v.
+#[inline]
+pub fn look_up(set: &Tileset, mode: Mode, depth: u32, tile: &Image) -> Option<(u32, bool, bool)> {
+    let tile = Tile::from_image(tile, mode, depth, true).expect("the image has pixels");
+    let place = set.index_of(&tile)?;
+    let flip = set.tiles()[place].matching_flip(tile.data()).expect("the tile at this place matches");
+    Some((place as u32, flip.h, flip.v))
+}
+
+/// How many tiles a set has stored and discarded.
+pub fn counts(set: &Tileset) -> (u32, u32) {
+    (set.size() as u32, set.discarded_tiles)
+}
+
+/// The set with another count of discarded tiles.
+pub fn with_discarded(mut set: Tileset, discarded: u32) -> Tileset {
+    set.discarded_tiles = discarded;
+    set
+}
+
+/// The pixels of a set's tiles, one tile after the other.
+pub fn tile_pixels(set: &Tileset) -> Vec<u8> {
+    set.tiles().iter().flat_map(|tile| tile.data()).copied().collect()
+}
+
+/// The pixels of a set's last tile.
+pub fn last_tile(set: &Tileset) -> Vec<u8> {
+    set.tiles().last().expect("the set has a tile").data().to_vec()
+}
+
+/// `Tileset::to_native_data`.
+pub fn to_native_data(set: &Tileset) -> Result<Vec<u8>, String> {
+    set.to_native_data()
+}
+
+/// `Tileset::from_native_data`.
+pub fn from_native_data(
+    mode: Mode,
+    depth: u32,
+    width: u32,
+    height: u32,
+    flips: bool,
+    bytes: &[u8],
+) -> Result<Tileset, String> {
+    Tileset::from_native_data(bytes, mode, depth, width, height, !flips)
+}
+
+/// `native_tile_index`.
+pub fn native_tile_index(mode: Mode, width: u32, height: u32, tile: u32) -> u32 {
+    tileset::native_tile_index(tile, mode, width, height)
+}
+
+/// `logical_tile_index`.
+pub fn logical_tile_index(mode: Mode, width: u32, height: u32, cell: u32) -> u32 {
+    tileset::logical_tile_index(cell, mode, width, height)
 }

@@ -1,5 +1,7 @@
 //! What both test files use: calls on lent buffers of noise, and tiles.
 
+pub mod sets;
+
 use reading::{Random, Shape};
 use rumchivoat::Refusal;
 

@@ -2,6 +2,7 @@
 
 use std::fmt;
 use std::panic::{self, AssertUnwindSafe};
+use std::thread;
 
 use reading::{MODES, Random, Shape, native_shapes};
 use rumchivoat::Refusal;
@@ -42,13 +43,18 @@ pub fn tile_text(bytes: &[u8]) -> String {
     }
 }
 
-/// What a call of the Rust says; the text of a panic is not shown.
-fn said(call: impl FnOnce() -> Result<Vec<u8>, String>) -> Said {
+/// What a call of the Rust answers, or `Err` where it panics; the text of a panic is not shown.
+pub fn quietly<T>(call: impl FnOnce() -> T) -> thread::Result<T> {
     let hook = panic::take_hook();
     panic::set_hook(Box::new(|_| ()));
     let answer = panic::catch_unwind(AssertUnwindSafe(call));
     panic::set_hook(hook);
-    match answer {
+    answer
+}
+
+/// What a call of the Rust says.
+fn said(call: impl FnOnce() -> Result<Vec<u8>, String>) -> Said {
+    match quietly(call) {
         Ok(Ok(bytes)) => Bytes(bytes),
         Ok(Err(_)) => Said::Err,
         Err(_) => Panic,

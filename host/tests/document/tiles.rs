@@ -9,10 +9,10 @@ use super::common::{
 use super::{MODE_NUMBERS, print_count};
 
 /// Every depth, numbers between and beyond, and numbers that end in a depth's bits.
-const DEPTHS: [u32; 13] = [0, 1, 2, 3, 4, 5, 6, 7, 8, 9, 34, 258, u32::MAX];
+pub const DEPTHS: [u32; 13] = [0, 1, 2, 3, 4, 5, 6, 7, 8, 9, 34, 258, u32::MAX];
 
 /// Widths and heights around those of native tiles, and some whose products or low bits are a native tile's.
-const SIDES: [u32; 18] = [0, 7, 8, 9, 15, 16, 17, 31, 32, 33, 63, 64, 65, 264, 65_536, 65_552, 1 << 31, u32::MAX];
+pub const SIDES: [u32; 18] = [0, 7, 8, 9, 15, 16, 17, 31, 32, 33, 63, 64, 65, 264, 65_536, 65_552, 1 << 31, u32::MAX];
 
 /// The pixels of the largest native tile.
 const MOST_PIXELS: usize = 32 * 64;
@@ -205,7 +205,7 @@ fn tiles_return() {
 }
 
 /// Every choice of these refusals.
-fn choices(refusals: &[u32]) -> impl Iterator<Item = Vec<u32>> {
+pub fn choices(refusals: &[u32]) -> impl Iterator<Item = Vec<u32>> {
     (0..1 << refusals.len()).map(move |choice: u32| {
         let chosen = refusals.iter().zip(0..).filter(|(_, place)| choice >> place & 1 == 1);
         chosen.map(|(&refusal, _)| refusal).collect()

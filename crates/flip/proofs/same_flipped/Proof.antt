@@ -42,7 +42,8 @@ mul-same-row : tie.Need-mul-same-row Inv-loop μ-loop
 mul-same-row c = omega (arith, tile-row c)
 
 same-row-requires : tie.Need-same-row-requires Inv-loop μ-loop
-same-row-requires c κs = (omega (arith, store-row c), omega (arith, tile-row c))
+same-row-requires c κs =
+    record { eights = c .before .before .before .before .before .pre .eights; inside = omega (arith, store-row c); within = omega (arith, tile-row c) }
 
 returns : tie.Need-returns Inv-loop μ-loop
 returns c =

@@ -1,43 +1,52 @@
--- A row is compared place by place: all places before x agree.
-use mathlib.Core.Path.{_≡_, sym, ap, _∙_}
-use Prim.Native.Nat.{ℕ, _<_, _≤_, _-_, _+_}
+-- A row is compared by eights: all places before x agree.
+use mathlib.Core.Path.{_≡_, subst}
+use Prim.Native.Nat.{ℕ, _<_, _≤_, _-_, _+_, _%_}
 use native.Mathlib.Omega.{arith}
 use lib.ListN.{getD}
 use denote.Ref.{now}
-use borrow.Author.Count.{below-more}
 use borrow.Author.Needs.{needs}
 use Rattle.flip.specs.Flips.{turned}
+use Rattle.flip.specs.Matching.{Eight, eightFrom}
+use Rattle.flip.proofs.Eights.{eight-left, eight-differs, eight-agrees}
 use Rattle.flip.proofs.same_row.Statement.{statement}
 use Rattle.flip.proofs.same_row.Tie as tie
 
 abbrev Inv-loop : tie.InvT-loop
-Inv-loop store from tile i width across x₀ x = (x ≤ width) × ((k : ℕ) → k < x → getD store (from + turned across width k) 0 ≡ getD tile (i + k) 0)
+Inv-loop store from tile i width across x₀ x = (x ≤ width) × (x % 8 ≡ 0) × ((k : ℕ) → k < x → getD store (from + turned across width k) 0 ≡ getD tile (i + k) 0)
 
 abbrev μ-loop : tie.MeasureT-loop
 μ-loop store from tile i width across x₀ x = width - x
 
+-- there are eight pixels more, and where they stand in the store
+left : (c : tie.In-loop Inv-loop μ-loop) → c .before .loop .x + 8 ≤ c .before .before .before .before .args .width
+left c = eight-left _ _ (c .before .before .before .before .pre .eights) (c .before .loop .inv .1) (c .loop-test .taken)
+
+stored : (c : tie.After-eight2 Inv-loop μ-loop) → Eight (c .before .before .before .before .before .before .before .args .across) (now (c .before .before .before .before .before .before .before .args .store)) (c .before .before .before .before .before .before .before .args .from + eightFrom (c .before .before .before .before .before .before .before .args .across) (c .before .before .before .before .before .before .before .args .width) (c .before .before .before .before .loop .x)) (c .before .eight .result)
+stored c =
+    subst (λ (e : ℕ). Eight (c .before .before .before .before .before .before .before .args .across) (now (c .before .before .before .before .before .before .before .args .store)) (c .before .before .before .before .before .before .before .args .from + e) (c .before .eight .result)) (c .before .before .eight-from .ensures .0)
+    (c .before .eight .ensures)
+
 loop-holds : tie.Need-loop-holds Inv-loop μ-loop
 loop-holds c = search needs
 
-turned-requires : tie.Need-turned-requires Inv-loop μ-loop
-turned-requires c κs = search needs
+eight-from-requires : tie.Need-eight-from-requires Inv-loop μ-loop
+eight-from-requires c κs = search needs
 
-add-j : tie.Need-add-j Inv-loop μ-loop
-add-j c = search needs
+add-eight : tie.Need-add-eight Inv-loop μ-loop
+add-eight c = search needs
 
-shared-slice-read-if1 : tie.Need-shared-slice-read-if1 Inv-loop μ-loop
-shared-slice-read-if1 c = search needs
+eight-requires : tie.Need-eight-requires Inv-loop μ-loop
+eight-requires c κs = search needs
 
-add-if1 : tie.Need-add-if1 Inv-loop μ-loop
-add-if1 c = search needs
+add-eight-2 : tie.Need-add-eight-2 Inv-loop μ-loop
+add-eight-2 c = search needs
 
-shared-slice-read-if1-2 : tie.Need-shared-slice-read-if1-2 Inv-loop μ-loop
-shared-slice-read-if1-2 c = search needs
+eight-requires-2 : tie.Need-eight-requires-2 Inv-loop μ-loop
+eight-requires-2 c κs = search needs
 
 returns : tie.Need-returns Inv-loop μ-loop
 returns c =
-    let st = c .before .before .before .before .before .before .before .before .args in
-    (c .before .before .before .before .before .loop .x, c .before .before .before .before .loop-test .taken, λ e. c .if1 .taken (ap (λ (k : ℕ). getD (now (st .store)) (st .from + k) 0) (c .before .before .before .turned .ensures .0) ∙ e))
+    eight-differs _ _ _ _ _ _ _ (left (c .before .before .before .before)) _ _ (stored (c .before)) (c .before .eight2 .ensures) (c .if1 .taken)
 
 add-x : tie.Need-add-x Inv-loop μ-loop
 add-x c = search needs
@@ -47,11 +56,10 @@ loop-less c = search needs
 
 loop-again : tie.Need-loop-again Inv-loop μ-loop
 loop-again c =
-    let st = c .before .before .before .before .before .before .before .before .args in
-    (search needs, below-more _ _ (c .before .before .before .before .before .loop .inv .1) (ap (λ (k : ℕ). getD (now (st .store)) (st .from + k) 0) (sym (c .before .before .before .turned .ensures .0)) ∙ c .if1 .left))
+    (search needs, search needs, eight-agrees _ _ _ _ _ _ _ (left (c .before .before .before .before)) _ _ (stored (c .before)) (c .before .eight2 .ensures) (c .if1 .left) (c .before .before .before .before .before .loop .inv .2))
 
 returns-2 : tie.Need-returns-2 Inv-loop μ-loop
-returns-2 c = λ k p. c .before .loop .inv .1 k (omega arith)
+returns-2 c = λ k p. c .before .loop .inv .2 k (omega arith)
 
 pub same-row-spec : {M : Type 1} → statement M
 same-row-spec =
@@ -60,11 +68,11 @@ same-row-spec =
     Inv-loop
     μ-loop
     loop-holds
-    turned-requires
-    add-j
-    shared-slice-read-if1
-    add-if1
-    shared-slice-read-if1-2
+    eight-from-requires
+    add-eight
+    eight-requires
+    add-eight-2
+    eight-requires-2
     returns
     add-x
     loop-less

@@ -4,10 +4,10 @@ use Rattle.replay.proofs.report.Statement.{statement}
 use Rattle.replay.proofs.report.Tie as tie
 
 abbrev Inv-loop : tie.InvT-loop
-Inv-loop s kind₀ t3 t4 kind = kind ≤ 11
+Inv-loop s kind₀ t3 t4 kind = kind ≤ 15
 
 abbrev μ-loop : tie.MeasureT-loop
-μ-loop s kind₀ t3 t4 kind = 11 - kind
+μ-loop s kind₀ t3 t4 kind = 15 - kind
 
 loop-holds : tie.Need-loop-holds Inv-loop μ-loop
 loop-holds c = search needs

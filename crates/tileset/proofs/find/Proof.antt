@@ -36,6 +36,7 @@ match-flip-requires c κs =
     let s = c .before .before .before .before in
     record {
       some = s .pre .some;
+      eights = s .pre .eights;
       inside = omega (arith, item-inside (s .args .width * s .args .height) (s .args .count) (c .before .loop .k) (c .loop-test .taken), s .pre .inside);
       whole = s .pre .whole;
     }

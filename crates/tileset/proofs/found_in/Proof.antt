@@ -40,6 +40,7 @@ find-requires c κs =
     let s = c .before .before .before .before .before .before .before .before in
     record {
       some = s .pre .some;
+      eights = s .pre .eights;
       small = s .pre .small;
       inside = s .pre .inside;
       whole = ap length (tile-is (c .before .before .before .before)) ∙ length-cut (s .args .set .depth) _ ∙ s .pre .whole;

@@ -1,0 +1,248 @@
+-- Writing a set and reading it: its tiles, and blank ones to the end of the last row of tiles.
+-- Assumes nothing.
+use mathlib.Core.Path.{_≡_, refl, sym, ap, _∙_}
+use mathlib.Core.Bool.{Bool, true, false, cond, _&&_}
+use mathlib.Core.List.{List, [], _∷_, _++_}
+use Prim.Native.Nat.{ℕ, _+_, _-_, _*_, _/_, _%_, _<_, _≤_}
+use native.Mathlib.Nat.{mod-lt, mul-le-mul-right, mul-comm, mul-assoc, add-mul, mul-one, one-mul, zero-mul, add-zero, div-one, zero-div, div-add-mod', mul-div-cancel, mul-mod-left, le-refl}
+use native.Mathlib.Omega.{arith}
+use lib.Dec.{ltb, eqb}
+use lib.ListN.{length, getD, take, drop, replicate, getD-replicate, length-replicate, length-append, length-drop, List·getD-append}
+use lib.Seq.{getD-take, getD-drop, getD-append-add, length-take-le, ext-getD}
+use borrow.Author.Tests.{ltb-true, ltb-false, eqb-true}
+use Rattle.words.specs.Loops.{each}
+use Rattle.words.proofs.Items.{item-getD, item-inside, each-eq, whole-parts}
+use Rattle.words.proofs.Loops.{length-each}
+use Rattle.mode.specs.Table.{pce-sprite}
+use Rattle.flip.proofs.Group.{place-lt}
+use Rattle.tileset.specs.Sets.{area, heldSays}
+use Rattle.tileset.specs.Numbers.{rowCells, firstCell, Grid}
+use Rattle.tileset.specs.Writing.{paddedCells, cellCount, cellPixels, cellsOf, setBytes, writeSays}
+use Rattle.tileset.specs.Reading.{wholeTiles, readCount, readSays, pixelIn, tileIn, readPixels, paddedTiles, tileCount}
+use Rattle.tileset.specs.declared.Set.{Set}
+use Rattle.tileset.proofs.Sizes.{IsSet, grid-set, bits-some}
+use Rattle.tileset.proofs.Says.{held-set, held-says-set}
+use Rattle.tileset.proofs.Numbers.{belongs-start}
+use Rattle.tileset.proofs.Writing.{held-inside, write-held, cell-set, cells-room, cell-blank}
+use Rattle.tileset.proofs.Written.{cell-back, tile-pixel}
+use Rattle.tileset.proofs.Reading.{strip-some, tile-complete, cells-before, readable-set, read-0}
+
+-- What reading the bytes of a written set gives: its tiles and blank ones, and no refusal where there is room for them.
+pub record ReadsBack (z : Set) (store : List ℕ) : Type 0 where
+  pub count : readCount (z .mode) (z .depth) (z .width) (z .height) (length (setBytes z store)) ≡ tileCount (z .mode) (z .width) (z .height) (z .stored)
+  pub pixels :
+      readPixels (z .mode) (z .depth) (z .width) (z .height) (setBytes z store)
+      ≡ take (z .stored * area z) store ++ replicate ((tileCount (z .mode) (z .width) (z .height) (z .stored) - z .stored) * area z) 0
+  pub passes :
+      (left : ℕ) → tileCount (z .mode) (z .width) (z .height) (z .stored) * area z ≤ left → tileCount (z .mode) (z .width) (z .height) (z .stored) ≤ 65535
+      → readSays (z .mode) (z .depth) (z .width) (z .height) (length (setBytes z store)) left ≡ 0
+
+-- ---- rows of pixels, one after the other
+
+singles : (l : List ℕ) (n : ℕ) → length l ≡ n → each n (λ x. getD l x 0 ∷ []) ≡ l
+singles l n len =
+    let f : ℕ → List ℕ = λ x. getD l x 0 ∷ [] in
+    let long : length (each n f) ≡ n = length-each n 1 f (λ x. refl) ∙ mul-one n in
+    ext-getD 0 (each n f) l (long ∙ sym len)
+    (λ i lt. let e : i * 1 + 0 ≡ i = omega arith in
+    ap (λ (k : ℕ). getD (each n f) k 0) (sym e) ∙ item-getD 1 f (λ x. refl) n i (omega arith) 0 (omega arith))
+
+rows-of : (w h : ℕ) (l : List ℕ) (f : ℕ → ℕ → ℕ) → length l ≡ w * h → ((y x : ℕ) → y < h → x < w → f y x ≡ getD l (y * w + x) 0)
+    → each h (λ y. each w (λ x. f y x ∷ [])) ≡ l
+rows-of w h l f len is =
+    each-eq h (λ y. each w (λ x. f y x ∷ [])) (λ y. take w (drop (y * w) l))
+    (λ y hy.
+    let row = take w (drop (y * w) l) in
+    let inside : y * w + w ≤ h * w = item-inside w h y hy in
+    let long : length row ≡ w = length-take-le w (drop (y * w) l) (omega (arith, length-drop (y * w) l, mul-comm w h)) in
+    each-eq w (λ x. f y x ∷ []) (λ x. getD row x 0 ∷ [])
+    (λ x hx. ap (λ (k : ℕ). k ∷ []) (is y x hy hx ∙ sym (getD-take w (drop (y * w) l) x 0 hx ∙ getD-drop (y * w) l x 0)))
+    ∙ singles row w long)
+    ∙ whole-parts w h l (len ∙ mul-comm w h)
+
+-- ---- how many tiles the written cells hold
+
+module _ (r h v : ℕ) (g : Grid r h v) where
+  -- whole strips of cells
+  whole-strips : (q : ℕ) → wholeTiles r h v (q * v * r) ≡ q * (r / h)
+  unfolding wholeTiles
+  whole-strips q =
+      let some : 0 < v * r = strip-some r h v g 0 in
+      rw (mul-assoc q v r, mul-div-cancel q {n = v * r} some, mul-mod-left q (v * r))
+      (ap (λ (k : ℕ). q * (r / h) + k / h) (none ((v - 1) * r)) ∙ ap (λ (k : ℕ). q * (r / h) + k) (zero-div h) ∙ add-zero (q * (r / h)))
+    where
+      none : (n : ℕ) → 0 - n ≡ 0
+      none n = omega arith
+
+  padded-tiles : (n : ℕ) → wholeTiles r h v (paddedCells r h v n) ≡ paddedTiles (r / h) n
+  unfolding paddedCells
+  padded-tiles n = whole-strips ((n + (r / h - 1)) / (r / h))
+
+  padded-more : (n : ℕ) → n ≤ paddedTiles (r / h) n
+  padded-more n = omega (arith, div-add-mod' (n + (r / h - 1)) (r / h), mod-lt (n + (r / h - 1)) (g .tiles), g .tiles)
+
+-- at 8x8 every cell is a tile
+pub single-tiles : (r n : ℕ) → wholeTiles r 1 1 n ≡ n
+unfolding wholeTiles
+single-tiles r n =
+    let e : n % r - 0 * r ≡ n % r = omega (arith, zero-mul r) in
+    rw (one-mul r, div-one r, e, div-one (n % r)) (div-add-mod' n r)
+
+module _ {m d w h : ℕ} (s : IsSet m d w h) (other : m ≡ pce-sprite → ⊥) (n : ℕ) where
+  grid : Grid (rowCells m) (w / 8) (h / 8)
+  grid = grid-set s other
+
+  abbrev rows : ℕ
+  rows = paddedTiles (rowCells m / (w / 8)) n
+
+  count-case : (a b : Bool) → eqb w 8 ≡ a → eqb h 8 ≡ b
+      → wholeTiles (rowCells m) (w / 8) (h / 8) (cond (a && b) n (paddedCells (rowCells m) (w / 8) (h / 8) n)) ≡ cond (a && b) n rows
+  count-case true true e f =
+      let across : w / 8 ≡ 1 = omega (arith, eqb-true w 8 e) in
+      let down : h / 8 ≡ 1 = omega (arith, eqb-true h 8 f) in
+      ap (λ (k : ℕ). wholeTiles (rowCells m) k (h / 8) n) across ∙ ap (λ (k : ℕ). wholeTiles (rowCells m) 1 k n) down ∙ single-tiles (rowCells m) n
+  count-case true false e f = padded-tiles (rowCells m) (w / 8) (h / 8) grid n
+  count-case false b e f = padded-tiles (rowCells m) (w / 8) (h / 8) grid n
+
+  pub count-is : wholeTiles (rowCells m) (w / 8) (h / 8) (cellCount m w h n) ≡ tileCount m w h n
+  unfolding cellCount tileCount
+  count-is = count-case (eqb w 8) (eqb h 8) refl refl
+
+  more-case : (a b : Bool) → n ≤ cond (a && b) n rows
+  more-case true true = le-refl n
+  more-case true false = padded-more (rowCells m) (w / 8) (h / 8) grid n
+  more-case false b = padded-more (rowCells m) (w / 8) (h / 8) grid n
+
+  pub count-more : n ≤ tileCount m w h n
+  unfolding tileCount
+  count-more = more-case (eqb w 8) (eqb h 8)
+
+-- ---- what was written is read
+
+module _ (z : Set) (store : List ℕ) (room : ℕ) (done : writeSays z store room ≡ 0) (other : z .mode ≡ pce-sprite → ⊥) where
+  abbrev bytes : List ℕ
+  bytes = setBytes z store
+
+  abbrev count : ℕ
+  count = tileCount (z .mode) (z .width) (z .height) (z .stored)
+
+  -- the stored tiles, and blank ones
+  abbrev tiles : List ℕ
+  tiles = take (z .stored * area z) store ++ replicate ((count - z .stored) * area z) 0
+
+  held : heldSays z (length store) ≡ 0
+  held = write-held z store room done
+
+  sound : IsSet (z .mode) (z .depth) (z .width) (z .height)
+  sound = held-set z (length store) held
+
+  bytes-long : length bytes ≡ cellsOf z * (z .depth * 8)
+  bytes-long = sym (cell-set z store held other .1) ∙ cells-room z store held other
+
+  some : 0 < z .depth * 8
+  some = omega (arith, bits-some sound)
+
+  cells-there : length bytes / (z .depth * 8) ≡ cellsOf z
+  cells-there = ap (λ (k : ℕ). k / (z .depth * 8)) bytes-long ∙ mul-div-cancel (cellsOf z) {n = z .depth * 8} some
+
+  read-count : readCount (z .mode) (z .depth) (z .width) (z .height) (length bytes) ≡ count
+  read-count = ap (λ (k : ℕ). wholeTiles (rowCells (z .mode)) (z .width / 8) (z .height / 8) k) cells-there ∙ count-is sound other (z .stored)
+
+  stored-in : z .stored ≤ count
+  stored-in = count-more sound other (z .stored)
+
+  -- pixel (y, x) of tile t
+  module _ (t y x : ℕ) (ht : t < count) (hy : y < z .height) (hx : x < z .width) where
+    abbrev r : ℕ
+    r = rowCells (z .mode)
+
+    abbrev cell : ℕ
+    cell = firstCell (z .mode) (z .width) (z .height) t + y / 8 * r + x / 8
+
+    abbrev j : ℕ
+    j = y % 8 * 8 + x % 8
+
+    row-in : y / 8 < z .height / 8
+    row-in = omega (arith, sound .down)
+
+    column-in : x / 8 < z .width / 8
+    column-in = omega (arith, sound .across)
+
+    cell-there : cell < cellsOf z
+    cell-there =
+        let grid-here = grid-set sound other in
+        let whole : t < wholeTiles r (z .width / 8) (z .height / 8) (cellsOf z) = omega (arith, count-is sound other (z .stored)) in
+        omega (arith, cells-before r (z .width / 8) (z .height / 8) t (y / 8) (x / 8) row-in column-in, tile-complete r (z .width / 8) (z .height / 8) grid-here (cellsOf z) t whole)
+
+    unpacked-is : pixelIn (z .mode) (z .depth) (z .width) (z .height) bytes t y x ≡ getD (cellPixels z store cell) j 0
+    unpacked-is = ap (λ (l : List ℕ). getD l j 0) (cell-back z store room done other cell cell-there)
+
+    abbrev place : ℕ
+    place = t * area z + y * z .width + x
+
+    in-area : y * z .width + x < area z
+    in-area = place-lt (z .width) (z .height) y x hy hx
+
+    front-long : length (take (z .stored * area z) store) ≡ z .stored * area z
+    front-long = length-take-le (z .stored * area z) store (held-inside z (length store) held)
+
+    pixel-case : (b : Bool) → ltb t (z .stored) ≡ b → getD (cellPixels z store cell) j 0 ≡ getD tiles place 0
+    pixel-case true e =
+        let lt = ltb-true t (z .stored) e in
+        let inside : place < z .stored * area z = omega (arith, in-area, item-inside (area z) (z .stored) t lt) in
+        tile-pixel z store room done other t y x lt hy hx
+        ∙ sym (getD-take (z .stored * area z) store place 0 inside)
+        ∙ sym (List·getD-append (take (z .stored * area z) store) (replicate ((count - z .stored) * area z) 0) 0 place (omega (arith, front-long)))
+    pixel-case false e =
+        let le = ltb-false t (z .stored) e in
+        let from : z .stored * area z ≤ t * area z = mul-le-mul-right (area z) le in
+        let tile-is = belongs-start r (z .width / 8) (z .height / 8) (grid-set sound other) t (y / 8) (x / 8) row-in column-in in
+        let blank = cell-blank z store cell (omega (arith, tile-is)) in
+        let past = place - z .stored * area z in
+        let whole : count - z .stored + z .stored ≡ count = omega (arith, stored-in) in
+        let inside : past < (count - z .stored) * area z =
+        omega (arith, in-area, item-inside (area z) count t ht, add-mul (count - z .stored) (z .stored) (area z), ap (λ (k : ℕ). k * area z) whole) in
+        let place-is : place ≡ length (take (z .stored * area z) store) + past = omega (arith, front-long) in
+        ap (λ (l : List ℕ). getD l j 0) (sym blank)
+        ∙ getD-replicate {A = ℕ} 64 j 0 0 (omega arith)
+        ∙ sym (ap (λ (k : ℕ). getD tiles k 0) place-is
+        ∙ getD-append-add (take (z .stored * area z) store) (replicate ((count - z .stored) * area z) 0) past 0
+        ∙ getD-replicate {A = ℕ} ((count - z .stored) * area z) past 0 0 inside)
+
+    pixel-back : pixelIn (z .mode) (z .depth) (z .width) (z .height) bytes t y x ≡ getD tiles place 0
+    pixel-back = unpacked-is ∙ pixel-case (ltb t (z .stored)) refl
+
+  tiles-long : length tiles ≡ count * area z
+  tiles-long =
+      let whole : count - z .stored + z .stored ≡ count = omega (arith, stored-in) in
+      let front : length (take (z .stored * area z) store) ≡ z .stored * area z = length-take-le (z .stored * area z) store (held-inside z (length store) held) in
+      length-append (take (z .stored * area z) store) (replicate ((count - z .stored) * area z) 0)
+      ∙ omega (arith, front, length-replicate {A = ℕ} ((count - z .stored) * area z) 0, add-mul (count - z .stored) (z .stored) (area z), ap (λ (k : ℕ). k * area z) whole)
+
+  tile-back : (t : ℕ) → t < count → tileIn (z .mode) (z .depth) (z .width) (z .height) bytes t ≡ take (area z) (drop (t * area z) tiles)
+  tile-back t ht =
+      let l = take (area z) (drop (t * area z) tiles) in
+      let long : length l ≡ area z = length-take-le (area z) (drop (t * area z) tiles) (omega (arith, length-drop (t * area z) tiles, tiles-long, item-inside (area z) count t ht)) in
+      rows-of (z .width) (z .height) l (pixelIn (z .mode) (z .depth) (z .width) (z .height) bytes t) long
+      (λ y x hy hx.
+      let place : t * area z + y * z .width + x ≡ t * area z + (y * z .width + x) = omega arith in
+      pixel-back t y x ht hy hx
+      ∙ ap (λ (k : ℕ). getD tiles k 0) place
+      ∙ sym (getD-take (area z) (drop (t * area z) tiles) (y * z .width + x) 0 (place-lt (z .width) (z .height) y x hy hx) ∙ getD-drop (t * area z) tiles (y * z .width + x) 0))
+
+  pixels-back : readPixels (z .mode) (z .depth) (z .width) (z .height) bytes ≡ tiles
+  unfolding readPixels
+  pixels-back =
+      ap (λ (k : ℕ). each k (tileIn (z .mode) (z .depth) (z .width) (z .height) bytes)) read-count
+      ∙ each-eq count (tileIn (z .mode) (z .depth) (z .width) (z .height) bytes) (λ t. take (area z) (drop (t * area z) tiles)) tile-back
+      ∙ whole-parts (area z) count tiles tiles-long
+
+  not-refused : (left : ℕ) → count * area z ≤ left → count ≤ 65535 → readSays (z .mode) (z .depth) (z .width) (z .height) (length bytes) left ≡ 0
+  not-refused left fits few =
+      let says = sym (readable-set (z .mode) (z .depth) (z .width) (z .height) other) ∙ held-says-set z (length store) held in
+      let whole : length bytes % (z .depth * 8) ≡ 0 = ap (λ (k : ℕ). k % (z .depth * 8)) bytes-long ∙ mul-mod-left (cellsOf z) (z .depth * 8) in
+      sym (read-0 (z .mode) (z .depth) (z .width) (z .height) (length bytes) left says whole (rw read-count fits) (rw read-count few))
+
+  -- a set that was written, in any mode but pce_sprite, reads back
+  pub write-then-read : ReadsBack z store
+  write-then-read = record { count = read-count; pixels = pixels-back; passes = not-refused }

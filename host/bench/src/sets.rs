@@ -1,0 +1,160 @@
+//! Adding and looking up, on tiles that are like art and on tiles that are not.
+
+use std::hint::black_box;
+
+use reading::{MODES, Random, Shape};
+use rumchivoat::Set;
+use superfamiconv::plain;
+
+use crate::{Measured, measured};
+
+/// As many tiles as an entry of snes can name.
+const TILES: usize = 1024;
+/// Tiles of the same kind that no set has.
+const OTHERS: usize = 64;
+
+/// Which tiles: where two of them first differ decides how much of each is looked at.
+#[derive(Clone, Copy)]
+enum Kind {
+    /// Few colours: a ground, a slope or a stripe over it, and a dot.
+    Art,
+    /// Blank but for the last row: without a mirror, two differ at the end.
+    Late,
+    /// Blank but for the first row.
+    Early,
+    /// Two differ in nearly every pixel.
+    Random,
+}
+
+use Kind::{Art, Early, Late};
+
+impl Kind {
+    fn name(self) -> &'static str {
+        match self {
+            Art => "art",
+            Late => "late",
+            Early => "early",
+            Kind::Random => "random",
+        }
+    }
+
+    fn tile(self, shape: Shape, random: &mut Random) -> Vec<u8> {
+        let mut pixels = vec![0; shape.pixels()];
+        let row = shape.width as usize;
+        match self {
+            Art => return art(shape, random),
+            Late => {
+                let last = pixels.len() - row;
+                pixels[last..].copy_from_slice(&random.pixels(shape.depth, row));
+            }
+            Early => pixels[..row].copy_from_slice(&random.pixels(shape.depth, row)),
+            Kind::Random => pixels = random.pixels(shape.depth, shape.pixels()),
+        }
+        pixels
+    }
+}
+
+/// A ground of one colour; below or right of a slope, or in every second stripe, another; and a dot.
+fn art(shape: Shape, random: &mut Random) -> Vec<u8> {
+    let [ground, ink, dot] = [0, 1, 2].map(|_| random.below(4) as u8);
+    let (rise, run) = (random.below(3), 1 + random.below(2));
+    let start = random.below(shape.width + shape.height);
+    let (stripes, thick) = (random.below(3) == 0, 1 + random.below(4));
+    let place = (random.below(shape.width), random.below(shape.height));
+    let color = |x: u32, y: u32| {
+        let across = rise * x + run * y;
+        let inked = if stripes { (across + start) / thick % 2 == 1 } else { across >= start };
+        if (x, y) == place { dot } else { [ground, ink][usize::from(inked)] }
+    };
+    (0..shape.height).flat_map(|y| (0..shape.width).map(move |x| (x, y))).map(|(x, y)| color(x, y)).collect()
+}
+
+/// So many tiles of a kind, of which no two match.
+fn different_tiles(shape: Shape, kind: Kind, count: usize, random: &mut Random) -> Vec<Vec<u8>> {
+    let mut store = vec![0; count * shape.pixels()];
+    let mut set = reading::set_new(shape, true, true, 0).expect("the shape is a set's");
+    while (set.stored as usize) < count {
+        set = reading::set_add(set, &mut store, &kind.tile(shape, random)).expect("there is room");
+    }
+    store.chunks_exact(shape.pixels()).map(<[u8]>::to_vec).collect()
+}
+
+/// A run of each call on each kind, of 8x8 and of 16x16.
+pub fn lines(random: &mut Random) -> impl Iterator<Item = Measured> {
+    let shapes = [8, 16].map(|side| Shape { mode: 0, depth: 4, width: side, height: side });
+    let cases = shapes.into_iter().flat_map(|shape| [Art, Late, Early, Kind::Random].map(|kind| (shape, kind)));
+    cases.flat_map(|(shape, kind)| {
+        let tiles = different_tiles(shape, kind, TILES + OTHERS, random);
+        [add_all(shape, kind, &tiles), look_up_nothing(shape, kind, &tiles)]
+    })
+}
+
+/// Mode, depth, size and kind.
+fn case_text(shape: Shape, kind: Kind) -> String {
+    let Shape { mode, depth, width, height } = shape;
+    format!("{} {depth} {width}x{height} {}", MODES[mode as usize].name, kind.name())
+}
+
+fn new_sets(shape: Shape) -> (Set, plain::Tileset) {
+    let Shape { mode, depth, width, height } = shape;
+    let port = Set::new(mode, depth, width, height, true, true, 0).expect("the shape is a set's");
+    (port, plain::tileset(plain::mode(mode), depth, width, height, true, true, 0))
+}
+
+fn images(shape: Shape, tiles: &[Vec<u8>]) -> Vec<plain::Image> {
+    tiles.iter().map(|tile| plain::image(shape.width, shape.height, tile)).collect()
+}
+
+/// Adds 1,024 tiles to an empty set, flips and discarding on; none matches.
+fn add_all(shape: Shape, kind: Kind, tiles: &[Vec<u8>]) -> Measured {
+    let tiles = &tiles[..TILES];
+    let images = images(shape, tiles);
+    let mut store = vec![0; TILES * shape.pixels()];
+    measured(
+        "set add",
+        case_text(shape, kind),
+        TILES,
+        || {
+            let (mut set, _) = new_sets(shape);
+            for tile in black_box(tiles) {
+                set.add(&mut store, tile).expect("there is room");
+            }
+            assert_eq!(black_box(set).stored as usize, TILES);
+        },
+        || {
+            let (_, mut set) = new_sets(shape);
+            for tile in black_box(&images) {
+                plain::add(&mut set, tile).expect("the image has pixels");
+            }
+            assert_eq!(plain::counts(black_box(&set)).0 as usize, TILES);
+        },
+    )
+}
+
+/// Looks 64 tiles up in a set of 1,024, none of which matches one.
+fn look_up_nothing(shape: Shape, kind: Kind, tiles: &[Vec<u8>]) -> Measured {
+    let (mut port, mut rust) = new_sets(shape);
+    let mut store = vec![0; TILES * shape.pixels()];
+    let images = images(shape, tiles);
+    let (others, other_images) = (&tiles[TILES..], &images[TILES..]);
+    for (tile, image) in tiles[..TILES].iter().zip(&images) {
+        port.add(&mut store, tile).expect("there is room");
+        plain::add(&mut rust, image).expect("the image has pixels");
+    }
+    let mode = plain::mode(shape.mode);
+    measured(
+        "set look_up",
+        case_text(shape, kind),
+        OTHERS,
+        || {
+            for tile in black_box(others) {
+                assert_eq!(port.look_up(black_box(&store), tile), Ok(None));
+            }
+        },
+        || {
+            for image in black_box(other_images) {
+                assert_eq!(plain::look_up(black_box(&rust), mode, shape.depth, image), None);
+            }
+        },
+    )
+}
