@@ -19,6 +19,7 @@
 mod color;
 mod entry;
 mod mode;
+mod picture;
 mod raw;
 mod refusal;
 mod set;
@@ -27,6 +28,7 @@ mod tile;
 pub use color::{Rounding, pack_colors, reduce_channel, scale_up, unpack_colors};
 pub use entry::{Entry, attribute, pack_entry, tile_index, unpack_entry};
 pub use mode::Mode;
+pub use picture::{Picture, Settings, convert, redraw};
 pub use refusal::Refusal;
 pub use set::{Logical, Native, Place, Set, logical_number, native_number};
 pub use tile::{pack_tile, unpack_tile};

@@ -3,6 +3,10 @@
 //! None of them asks anything of its arguments beyond what Rust's own types give, so each call below is sound for every
 //! slice and number: of two lent slices one is `&mut`, and then they do not overlap, or both are only read.
 
+mod picture;
+
+pub(crate) use picture::{convert, redraw};
+
 use crate::{Logical, Refusal, Set};
 
 /// The answer of a call that writes.

@@ -4,6 +4,8 @@
 //! panics, the difference is asserted as such; `DIFFERENCES` has the smallest input of each kind.
 
 mod common;
+#[path = "comparison/pictures.rs"]
+mod pictures;
 #[path = "comparison/sets.rs"]
 mod sets;
 #[path = "comparison/tiles.rs"]
@@ -25,7 +27,7 @@ fn the_port_and_the_rust() {
     if !superfamiconv::PRESENT {
         return say(&format!("comparison with the Rust {}", superfamiconv::ABSENT));
     }
-    let parts: [Part; 26] = [
+    let parts: [Part; 37] = [
         ("modes", modes),
         ("single-bit tiles, both ways", tiles::single_bit_tiles),
         ("random tiles, both ways", tiles::random_tiles),
@@ -51,7 +53,18 @@ fn the_port_and_the_rust() {
         ("sets of every length", sets::sets_of_every_length),
         ("full sets", sets::full_sets),
         ("every tile number", sets::every_tile_number),
-        ("known differences", || known_differences() + sets::known_differences()),
+        ("pictures of every kind", pictures::pictures_of_every_kind),
+        ("pictures of every side", pictures::pictures_of_every_side),
+        ("large pictures", pictures::large_pictures),
+        ("pictures and limits", pictures::limits),
+        ("as many tiles as entries can name", pictures::as_many_tiles_as_entries_can_name),
+        ("any map redrawn", pictures::any_map),
+        ("every entry drawn", pictures::every_entry_drawn),
+        ("maps and tiles of every length, redrawn", pictures::maps_and_tiles_of_every_length),
+        ("pictures converted by one and redrawn by the other", pictures::there_and_back),
+        ("flips and palettes that are none", pictures::flips_and_palettes_that_are_none),
+        ("pictures stopped by max_tile_count", pictures::stopped_by_max_tile_count),
+        ("known differences", || known_differences() + sets::known_differences() + pictures::known_differences()),
     ];
     let mut sum = 0;
     for (name, part) in parts {

@@ -2,6 +2,8 @@
 //! compared.
 
 mod common;
+#[path = "document/pictures.rs"]
+mod pictures;
 #[path = "document/sets.rs"]
 mod sets;
 #[path = "document/tiles.rs"]

@@ -28,7 +28,7 @@ const ROWS: [[u8; 9]; 16] = [
 ];
 
 // Each name, with zeros after it to ten bytes, and its length.
-const NAMES: [[u8; 10]; 16] = [
+pub const NAMES: [[u8; 10]; 16] = [
     *b"snes\0\0\0\0\0\0",
     *b"snes_mode7",
     *b"gb\0\0\0\0\0\0\0\0",
@@ -47,7 +47,7 @@ const NAMES: [[u8; 10]; 16] = [
     *b"wsc_packed",
 ];
 
-const LENGTHS: [usize; 16] = [4, 10, 2, 3, 3, 10, 2, 3, 2, 3, 10, 3, 4, 2, 3, 10];
+pub const LENGTHS: [usize; 16] = [4, 10, 2, 3, 3, 10, 2, 3, 2, 3, 10, 3, 4, 2, 3, 10];
 
 // A mode by its number.
 pub struct Mode(pub u32);

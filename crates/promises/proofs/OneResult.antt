@@ -40,6 +40,10 @@ use Rattle.rumchivoat.proofs.rumchivoat_native_number.Reads as native-number
 use Rattle.rumchivoat.proofs.rumchivoat_native_number.Kinds as native-number-kinds
 use Rattle.rumchivoat.proofs.rumchivoat_logical_number.Reads as logical-number
 use Rattle.rumchivoat.proofs.rumchivoat_logical_number.Kinds as logical-number-kinds
+use Rattle.rumchivoat.proofs.rumchivoat_convert.Reads as convert
+use Rattle.rumchivoat.proofs.rumchivoat_convert.Kinds as convert-kinds
+use Rattle.rumchivoat.proofs.rumchivoat_redraw.Reads as redraw
+use Rattle.rumchivoat.proofs.rumchivoat_redraw.Kinds as redraw-kinds
 
 pub pack-tile-result : OneResult 2 pack-tile-kinds.ps pack-tile-kinds.r pack-tile.Post
 pack-tile-result κs a x y s t p q = one-answer p q
@@ -121,3 +125,18 @@ native-number-result κs a x y s t p q = p ∙ sym q
 
 pub logical-number-result : OneResult 0 logical-number-kinds.ps logical-number-kinds.r logical-number.Post
 logical-number-result κs a x y s t p q = p ∙ sym q
+
+pub convert-result : OneResult 3 convert-kinds.ps convert-kinds.r convert.Post
+convert-result κs a x y s t p q = p .answer ∙ sym (q .answer)
+
+pub convert-tiles : OneContent 3 convert-kinds.ps convert-kinds.r convert.Post (λ κs s. now (s .1 .1 .1 .1 .1 .1 .1 .1 .1 .0))
+convert-tiles κs a x y s t p q = p .lent ∙ sym (q .lent)
+
+pub convert-map : OneContent 3 convert-kinds.ps convert-kinds.r convert.Post (λ κs s. now (s .1 .1 .1 .1 .1 .1 .1 .1 .1 .1 .0))
+convert-map κs a x y s t p q = p .alsoLent ∙ sym (q .alsoLent)
+
+pub redraw-result : OneResult 3 redraw-kinds.ps redraw-kinds.r redraw.Post
+redraw-result κs a x y s t p q = one-answer p q
+
+pub redraw-content : OneContent 3 redraw-kinds.ps redraw-kinds.r redraw.Post (λ κs s. now (s .1 .1 .1 .1 .1 .1 .0))
+redraw-content κs a x y s t p q = one-content p q

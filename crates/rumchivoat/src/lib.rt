@@ -2,6 +2,8 @@
 use color::Rounding;
 use mapentry::Entry;
 use mapentry::Mapentry;
+use picture::Picture;
+use picture::Settings;
 use tileset::Logical;
 use tileset::Native;
 use tileset::Place;
@@ -23,7 +25,9 @@ ghost use Rattle.tileset.specs.Adding.{addSays, added, storeWith, Adds};
 ghost use Rattle.tileset.specs.Writing.{writeSays, setBytes};
 ghost use Rattle.tileset.specs.Reading.{Reads};
 ghost use Rattle.tileset.specs.Numbers.{nativeSays, firstCell, logicalSays, tileOf};
-ghost use Rattle.rumchivoat.specs.Station.{roundingOf, entryFrom};
+ghost use Rattle.picture.specs.Converting.{convertSays, Converts};
+ghost use Rattle.picture.specs.Redrawing.{redrawSays, drawn};
+ghost use Rattle.rumchivoat.specs.Station.{roundingOf, entryFrom, settingsFrom};
 
 #[no_mangle]
 pub extern "C" fn rumchivoat_pack_tile(
@@ -250,4 +254,48 @@ pub extern "C" fn rumchivoat_logical_number(
         refusal: answer.refusal,
         value: answer.number.0,
     }
+}
+
+#[no_mangle]
+pub extern "C" fn rumchivoat_convert(
+    mode: u32,
+    depth: u32,
+    flip: bool,
+    discard: bool,
+    limit: u32,
+    palette: u32,
+    columns: u32,
+    rows: u32,
+    pixels: &[u8],
+    tiles: &mut [u8],
+    map: &mut [u8],
+) -> Picture
+    ensures { λ r. ⌜ Converts (convertSays (settingsFrom mode depth flip discard limit palette columns rows) (now (pixels .entry)) (length (now (tiles .entry))) (length (now (map .entry)))) (settingsFrom mode depth flip discard limit palette columns rows) (now (pixels .entry)) (now (tiles .entry)) (now (map .entry)) r (now (tiles .exit)) (now (map .exit)) ⌝ }
+{
+    let settings = Settings {
+        mode,
+        depth,
+        flip,
+        discard,
+        limit,
+        palette,
+        columns,
+        rows,
+    };
+    picture::convert(settings, pixels, tiles, map)
+}
+
+#[no_mangle]
+pub extern "C" fn rumchivoat_redraw(
+    mode: u32,
+    depth: u32,
+    columns: u32,
+    rows: u32,
+    tiles: &[u8],
+    map: &[u8],
+    out: &mut [u8],
+) -> Written
+    ensures { λ r. ⌜ Wrote (redrawSays mode depth columns rows (now (tiles .entry)) (now (map .entry)) (length (now (out .entry)))) (drawn mode depth columns rows (now (tiles .entry)) (now (map .entry))) (now (out .entry)) r (now (out .exit)) ⌝ }
+{
+    picture::redraw(mode, depth, columns, rows, tiles, map, out)
 }

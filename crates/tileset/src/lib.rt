@@ -4,7 +4,7 @@ use flip::Match;
 use mode::Mode;
 use words::Written;
 ghost use mathlib.Core.Path.{_≡_};
-ghost use Prim.Native.Nat.{_*_, _/_, _≤_, min};
+ghost use Prim.Native.Nat.{_*_, _/_, _≤_};
 ghost use lib.Dec.{leb, eqb};
 ghost use lib.ListN.{length};
 ghost use lib.Seq.{sets};
@@ -191,21 +191,15 @@ pub fn set_reset(set: Set) -> SetAnswer
     }
 }
 
-fn least(a: usize, b: usize) -> usize
-    ensures { λ r. ⌜ r ≡ min a b ⌝ }
-{
-    if a <= b { a } else { b }
-}
-
 // How many tiles a set may have, given how many whole tiles its store has.
 fn room(limit: u32, whole: usize) -> usize
     ensures { λ r. ⌜ r ≡ roomOf limit whole ⌝ }
 {
-    let most = least(65535, whole);
+    let most = words::least(65535, whole);
     if limit == 0 {
         return most;
     }
-    least(most, limit as usize)
+    words::least(most, limit as usize)
 }
 
 // Whether the state is a set's, in a store of so many pixels.

@@ -8,6 +8,7 @@ mod channel;
 mod colors;
 mod entries;
 mod modes;
+mod pictures;
 mod random;
 mod sets;
 mod tiles;
@@ -16,6 +17,7 @@ pub use channel::{reduce_channel, scale_up};
 pub use colors::{pack_colors, packed_length, unpack_colors, unpacked_count};
 pub use entries::{Entry, attribute, pack_entry, tile_index, unpack_entry};
 pub use modes::{MODES, Row, row};
+pub use pictures::{Picture, Settings, convert, cut_tiles, redraw};
 pub use random::Random;
 pub use sets::{
     Place, Set, flipped, logical_number, native_number, set_add, set_look_up, set_new, set_read, set_reset, set_shapes,

@@ -10,6 +10,10 @@ include!(concat!(env!("OUT_DIR"), "/rust/root.rs"));
 #[cfg_attr(not(present), path = "absent.rs")]
 pub mod plain;
 
+#[cfg_attr(present, path = "pictures.rs")]
+#[cfg_attr(not(present), path = "absent_pictures.rs")]
+pub mod pictures;
+
 /// Whether the Rust's text was there when this crate was compiled.
 pub const PRESENT: bool = cfg!(present);
 

@@ -1,5 +1,6 @@
 //! What both test files use: calls on lent buffers of noise, and tiles.
 
+pub mod pictures;
 pub mod sets;
 
 use reading::{Random, Shape};

@@ -53,7 +53,7 @@ pub fn quietly<T>(call: impl FnOnce() -> T) -> thread::Result<T> {
 }
 
 /// What a call of the Rust says.
-fn said(call: impl FnOnce() -> Result<Vec<u8>, String>) -> Said {
+pub fn said(call: impl FnOnce() -> Result<Vec<u8>, String>) -> Said {
     match quietly(call) {
         Ok(Ok(bytes)) => Bytes(bytes),
         Ok(Err(_)) => Said::Err,

@@ -1,0 +1,4 @@
+pub mod Keys
+pub mod Chains
+pub mod Putting
+pub mod Entering

@@ -1,0 +1,23 @@
+-- The store and the index, each with one tile more.
+use native.Mathlib.Omega.{arith}
+use Rattle.index.proofs.Entering.{entered}
+use borrow.Author.Needs.{needs}
+use Rattle.index.proofs.enter.Statement.{statement}
+use Rattle.index.proofs.enter.Tie as tie
+
+mul-put-tile : tie.Need-mul-put-tile
+mul-put-tile c = search needs
+
+put-tile-requires : tie.Need-put-tile-requires
+put-tile-requires c κs = search needs
+
+chain-requires : tie.Need-chain-requires
+chain-requires c κs = search needs
+
+returns : tie.Need-returns
+returns c =
+    let e = c .chain .ensures in
+    entered _ _ _ _ _ _ _ _ _ (c .before .before .before .before .before .before .before .pre) (omega (arith, c .before .before .before .before .before .put-tile-arg2 .given)) (omega (arith, c .before .before .before .before .before .before .put-tile-arg .given)) (omega (arith, c .before .before .before .chain-arg .given)) (omega (arith, c .before .before .chain-arg2 .given)) (omega (arith, c .before .chain-arg3 .given)) (c .before .before .before .before .put-tile .ensures) (e .0) (e .1 .0) (e .1 .1)
+
+pub enter-spec : {M : Type 1} → statement M
+enter-spec = tie.close (tie.spec mul-put-tile put-tile-requires chain-requires returns)

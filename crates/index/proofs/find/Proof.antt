@@ -1,0 +1,75 @@
+-- The tiles of the bucket from l on are searched.
+use mathlib.Core.Path.{_≡_}
+use Prim.Native.Nat.{_-_, _%_}
+use native.Mathlib.Omega.{arith}
+use borrow.Author.Needs.{needs}
+use Rattle.index.proofs.Chains.{Searching, search-start, search-look, search-down, search-turn, search-end}
+use Rattle.index.proofs.find.Statement.{statement}
+use Rattle.index.proofs.find.Tie as tie
+
+abbrev Inv-loop : tie.InvT-loop
+Inv-loop store keys heads next count tile q flips b l₀ found₀ l found = (b ≡ q % 4096) × Searching flips store count tile l found
+
+abbrev μ-loop : tie.MeasureT-loop
+μ-loop store keys heads next count tile q flips b l₀ found₀ l found = l
+
+bucket-requires : tie.Need-bucket-requires Inv-loop μ-loop
+bucket-requires c κs = search needs
+
+mul-place : tie.Need-mul-place Inv-loop μ-loop
+mul-place c = search needs
+
+element-copy-out-place : tie.Need-element-copy-out-place Inv-loop μ-loop
+element-copy-out-place c = search needs
+
+place-requires : tie.Need-place-requires Inv-loop μ-loop
+place-requires c κs = search needs
+
+loop-holds : tie.Need-loop-holds Inv-loop μ-loop
+loop-holds c =
+    let b = c .before .before .bucket in
+    (b .ensures .0, search-start _ _ _ _ _ _ _ _ (c .before .before .before .pre) (b .result) (b .ensures .0) (b .ensures .1) (c .place .ensures))
+
+sub-k : tie.Need-sub-k Inv-loop μ-loop
+sub-k c = search needs
+
+match-at-requires : tie.Need-match-at-requires Inv-loop μ-loop
+match-at-requires c κs = search-look _ _ _ _ _ _ _ _ (c .before .before .before .before .before .pre) (c .before .loop .l - 1) (omega (arith, c .before .loop .inv .1 .low))
+
+over-requires : tie.Need-over-requires Inv-loop μ-loop
+over-requires c κs = search needs
+
+link-requires : tie.Need-link-requires Inv-loop μ-loop
+link-requires c κs = search needs
+
+loop-less : tie.Need-loop-less Inv-loop μ-loop
+loop-less c =
+    let lp = c .before .before .before .before .loop in
+    omega (arith, search-down _ _ _ _ _ _ _ _ (c .before .before .before .before .before .before .before .before .pre) _ {k = lp .l - 1} (lp .inv .0) (c .before .before .before .loop-test .taken) (omega arith) (lp .inv .1) (c .before .before .match-at .ensures) (c .before .over .ensures) (c .link .ensures))
+
+loop-again : tie.Need-loop-again Inv-loop μ-loop
+loop-again c =
+    let lp = c .before .before .before .before .loop in
+    (lp .inv .0, search-turn _ _ _ _ _ _ _ _ (c .before .before .before .before .before .before .before .before .pre) _ {k = lp .l - 1} (lp .inv .0) (c .before .before .before .loop-test .taken) (omega arith) (lp .inv .1) (c .before .before .match-at .ensures) (c .before .over .ensures) (c .link .ensures))
+
+returns : tie.Need-returns Inv-loop μ-loop
+returns c = search-end _ _ _ _ _ _ _ _ (c .before .before .before .before .before .pre) (omega arith) (c .before .loop .inv .1)
+
+pub find-spec : {M : Type 1} → statement M
+find-spec =
+    tie.close
+    (tie.spec
+    Inv-loop
+    μ-loop
+    bucket-requires
+    mul-place
+    element-copy-out-place
+    place-requires
+    loop-holds
+    sub-k
+    match-at-requires
+    over-requires
+    link-requires
+    loop-less
+    loop-again
+    returns)

@@ -1,0 +1,46 @@
+-- The row's two numbers, one after the other.
+use denote.Ref.{now}
+use Rattle.flip.specs.Flips.{flipped}
+use Rattle.index.proofs.Keys.{row-more}
+use borrow.Author.Needs.{needs}
+use Rattle.index.proofs.more_row.Statement.{statement}
+use Rattle.index.proofs.more_row.Tie as tie
+
+mul-four : tie.Need-mul-four
+mul-four c = search needs
+
+four-requires : tie.Need-four-requires
+four-requires c κs = search needs
+
+more-requires : tie.Need-more-requires
+more-requires c κs = search needs
+
+mul-four-2 : tie.Need-mul-four-2
+mul-four-2 c = search needs
+
+add-four : tie.Need-add-four
+add-four c = search needs
+
+four-requires-2 : tie.Need-four-requires-2
+four-requires-2 c κs = search needs
+
+more-requires-2 : tie.Need-more-requires-2
+more-requires-2 c κs = search needs
+
+returns : tie.Need-returns
+returns c =
+    let s = c .before .before .before .before in
+    (row-more (flipped (s .args .f) 8 8 (now (s .args .tile))) (s .args .y) (s .pre .1) (c .before .before .before .four .ensures .0) (c .before .before .more .ensures .0) (c .before .four2 .ensures .0) (c .more2 .ensures .0), c .more2 .ensures .1)
+
+pub more-row-spec : {M : Type 1} → statement M
+more-row-spec =
+    tie.close
+    (tie.spec
+    mul-four
+    four-requires
+    more-requires
+    mul-four-2
+    add-four
+    four-requires-2
+    more-requires-2
+    returns)

@@ -1,0 +1,22 @@
+-- A match, or what was found.
+use borrow.Author.Needs.{needs}
+use Rattle.index.proofs.over.Statement.{statement}
+use Rattle.index.proofs.over.Tie as tie
+
+enum-known-m : tie.Need-enum-known-m
+enum-known-m c = search needs
+
+enum-told : tie.Need-enum-told
+enum-told c = search needs
+
+returns : tie.Need-returns
+returns c = search needs
+
+cast-t5 : tie.Need-cast-t5
+cast-t5 c = search needs
+
+returns-2 : tie.Need-returns-2
+returns-2 c = cc
+
+pub over-spec : {M : Type 1} → statement M
+over-spec = tie.close (tie.spec enum-known-m enum-told returns cast-t5 returns-2)

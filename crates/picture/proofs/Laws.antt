@@ -1,0 +1,195 @@
+-- The laws of document 01's "Pictures", as a reader wants them.
+-- Assumes nothing.
+use mathlib.Core.Path.{_≡_, sym, ap, _∙_, subst}
+use mathlib.Core.Bool.{Bool, true, false}
+use mathlib.Core.List.{List, map}
+use Prim.Native.Nat.{ℕ, suc, _+_, _*_, _<_, _≤_}
+use native.Mathlib.Omega.{arith}
+use lib.ListN.{length, take, drop}
+use lib.Seq.{take-at}
+use Rattle.words.specs.Answers.{lowest, unless, overwrite}
+use Rattle.words.proofs.Answers.{when-done}
+use Rattle.tileset.specs.Finding.{lookUp, isFound, cutTo}
+use Rattle.tileset.specs.Sets.{roomIn, newSet}
+use Rattle.tileset.specs.History.{setAtEnd, storeAtEnd, accepted as adds, tilesOf as setTiles, Apart}
+use Rattle.tileset.specs.declared.Set.{Set}
+use Rattle.picture.specs.Cells.{cutTile, cutTiles}
+use Rattle.picture.specs.Keeping.{kept, dropped}
+use Rattle.picture.specs.Converting.{places, tilesOf, storedOf, needOf, droppedOf, tileBytes, foundAt, mapBytes, roomOf, sizeSays, convertChecks, convertSays, Converts}
+use Rattle.picture.specs.Redrawing.{drawn, redrawSays}
+use Rattle.picture.specs.Inner.{askedSays}
+use Rattle.picture.specs.declared.Settings.{Settings}
+use Rattle.picture.specs.declared.Picture.{Picture}
+use Rattle.picture.proofs.Checks.{convert-12, convert-0, convert-passed}
+use Rattle.picture.proofs.Kept.{kept-apart, none-dropped}
+use Rattle.picture.proofs.Converted.{found-taken, is-found, stored-need, stored-dropped}
+use Rattle.picture.proofs.Room.{convert-full}
+use Rattle.picture.proofs.ByAdding.{tiles-accepted, tiles-stored, tiles-count, tiles-sum, tiles-cut}
+use Rattle.picture.proofs.Redrawn.{tiles-fit, map-fits, redraw-accepted, drawn-back}
+
+-- ---- an accepted picture is drawn again: what the conversion wrote is accepted by redrawing, and gives the picture, cut to the depth
+
+pub redrawn-back : (z : Settings) (pixels : List ℕ) (tileRoom mapRoom room : ℕ) → convertSays z pixels tileRoom mapRoom ≡ 0 → 64 * places z ≤ room
+    → (redrawSays (z .mode) (z .depth) (z .columns) (z .rows) (tileBytes z pixels) (mapBytes z pixels) room ≡ 0)
+    × (drawn (z .mode) (z .depth) (z .columns) (z .rows) (tileBytes z pixels) (mapBytes z pixels) ≡ cutTo (z .depth) pixels)
+redrawn-back z pixels tileRoom mapRoom room done enough =
+    (redraw-accepted z pixels tileRoom mapRoom done room enough, drawn-back z pixels tileRoom mapRoom done)
+
+-- so two pictures of which the same bytes are written are the same, cut to the depth
+pub alike-pictures : (z : Settings) (pixels others : List ℕ) (tileRoom mapRoom tileOther mapOther : ℕ)
+    → convertSays z pixels tileRoom mapRoom ≡ 0 → convertSays z others tileOther mapOther ≡ 0
+    → tileBytes z pixels ≡ tileBytes z others → mapBytes z pixels ≡ mapBytes z others → cutTo (z .depth) pixels ≡ cutTo (z .depth) others
+alike-pictures z pixels others tileRoom mapRoom tileOther mapOther done also tiles map =
+    sym (drawn-back z pixels tileRoom mapRoom done)
+    ∙ ap (λ (l : List ℕ). drawn (z .mode) (z .depth) (z .columns) (z .rows) l (mapBytes z pixels)) tiles
+    ∙ ap (drawn (z .mode) (z .depth) (z .columns) (z .rows) (tileBytes z others)) map
+    ∙ drawn-back z others tileOther mapOther also
+
+-- both buffers of an accepted picture hold what is written
+pub bytes-fit : (z : Settings) (pixels : List ℕ) (tileRoom mapRoom : ℕ) → convertSays z pixels tileRoom mapRoom ≡ 0
+    → (length (tileBytes z pixels) ≤ tileRoom) × (length (mapBytes z pixels) ≤ mapRoom)
+bytes-fit z pixels tileRoom mapRoom done = (tiles-fit z pixels tileRoom mapRoom done, map-fits z pixels tileRoom mapRoom done)
+
+-- ---- what a picture stores, names and discards
+
+module _ (z : Settings) (pixels : List ℕ) where
+  on-apart : (discard : Bool) → discard ≡ true → Apart (z .flip) 8 8 (kept discard (z .flip) 8 8 (tilesOf z pixels))
+  on-apart discard on =
+      subst (λ (b : Bool). Apart (z .flip) 8 8 (kept b (z .flip) 8 8 (tilesOf z pixels))) (sym on) (kept-apart (z .flip) 8 8 (tilesOf z pixels))
+
+  -- with discarding on, no two stored tiles match
+  pub no-two-match : z .discard ≡ true → Apart (z .flip) 8 8 (storedOf z pixels)
+  unfolding storedOf
+  no-two-match on = on-apart (z .discard) on
+
+  -- every tile is found among those stored, so that its entry names one
+  pub all-named : (i : ℕ) → i < places z → isFound (foundAt z pixels i) ≡ true
+  all-named i lt = is-found z pixels i lt
+
+  -- "as by adding": an entry has the place and flip that a look-up finds right after its tile was taken
+  pub named-when-taken : (i : ℕ) → i < places z
+      → foundAt z pixels i
+      ≡ lookUp (z .flip) 8 8 (kept (z .discard) (z .flip) 8 8 (cutTiles (z .depth) 8 8 (z .columns) pixels (suc i))) (cutTile (z .depth) 8 8 (z .columns) pixels i)
+  named-when-taken i lt = found-taken z pixels i lt
+
+  -- need, counted from the pixels alone, is the number of tiles stored
+  pub stored-needed : length (storedOf z pixels) ≡ needOf z pixels
+  stored-needed = stored-need z pixels
+
+  -- each tile is stored or discarded
+  pub all-counted : length (storedOf z pixels) + droppedOf z pixels ≡ places z
+  all-counted = stored-dropped z pixels
+
+  -- with discarding off, none is discarded and all are stored
+  pub none-discarded : z .discard ≡ false → droppedOf z pixels ≡ 0
+  unfolding droppedOf
+  none-discarded off =
+      ap (λ (b : Bool). dropped b (z .flip) 8 8 (tilesOf z pixels)) off ∙ none-dropped (z .flip) 8 8 (tilesOf z pixels)
+
+  pub all-stored : z .discard ≡ false → length (storedOf z pixels) ≡ places z
+  all-stored off = omega (arith, all-counted, none-discarded off)
+
+-- ---- "no room for the tiles": 12 and 0 are given exactly when no earlier check applies and need is above room, or is not
+
+module _ (z : Settings) (pixels : List ℕ) (tileRoom mapRoom : ℕ) where
+  -- what the five checks before the room's answer
+  abbrev pub earlier : ℕ
+  earlier = lowest (take 5 (convertChecks z pixels tileRoom mapRoom))
+
+  pub refused-for-room : (convertSays z pixels tileRoom mapRoom ≡ 12 → (earlier ≡ 0) × (roomOf z tileRoom < needOf z pixels))
+      × (earlier ≡ 0 → roomOf z tileRoom < needOf z pixels → convertSays z pixels tileRoom mapRoom ≡ 12)
+  unfolding askedSays
+  refused-for-room = (convert-full z pixels tileRoom mapRoom, λ a lt. sym (convert-12 z pixels tileRoom mapRoom a lt))
+
+  pub done-with-room : (convertSays z pixels tileRoom mapRoom ≡ 0 → (earlier ≡ 0) × (needOf z pixels ≤ roomOf z tileRoom))
+      × (earlier ≡ 0 → needOf z pixels ≤ roomOf z tileRoom → convertSays z pixels tileRoom mapRoom ≡ 0)
+  unfolding askedSays
+  done-with-room = (convert-passed z pixels tileRoom mapRoom, convert-0 z pixels tileRoom mapRoom)
+
+-- ---- the same over what a caller sees of a conversion that answers 0: its answer, and the buffers as it leaves them
+
+abbrev pub Done : Settings → List ℕ → List ℕ → List ℕ → Picture → List ℕ → List ℕ → Type 0
+Done z pixels tiles map r tilesAfter mapAfter =
+    Converts (convertSays z pixels (length tiles) (length map)) z pixels tiles map r tilesAfter mapAfter × (r .refusal ≡ 0)
+
+front : (n : ℕ) (bytes before after : List ℕ) (k : ℕ) → n ≡ 0 → k ≡ unless n (length bytes) 0 → after ≡ unless n (overwrite before bytes) before → take k after ≡ bytes
+front n bytes before after k z e q =
+    ap (λ (l : List ℕ). take k l) (q ∙ when-done n (overwrite before bytes) before z)
+    ∙ take-at bytes (drop (length bytes) before) k (sym (e ∙ when-done n (length bytes) 0 z))
+
+module _ (z : Settings) (pixels tiles map : List ℕ) (r : Picture) (tilesAfter mapAfter : List ℕ) (done : Done z pixels tiles map r tilesAfter mapAfter) where
+  says-0 : convertSays z pixels (length tiles) (length map) ≡ 0
+  says-0 = sym (ap (λ (x : Picture). x .refusal) (done .0 .answer)) ∙ done .1
+
+  -- the written part of each buffer
+  pub written-tiles : take (r .«tile_bytes») tilesAfter ≡ tileBytes z pixels
+  written-tiles =
+      front (convertSays z pixels (length tiles) (length map)) (tileBytes z pixels) tiles tilesAfter (r .«tile_bytes») says-0
+      (ap (λ (x : Picture). x .«tile_bytes») (done .0 .answer)) (done .0 .lent)
+
+  pub written-map : take (r .«map_bytes») mapAfter ≡ mapBytes z pixels
+  written-map =
+      front (convertSays z pixels (length tiles) (length map)) (mapBytes z pixels) map mapAfter (r .«map_bytes») says-0
+      (ap (λ (x : Picture). x .«map_bytes») (done .0 .answer)) (done .0 .alsoLent)
+
+  -- redrawing the written parts is accepted, and gives the picture, cut to the depth
+  pub redrawn-written : (room : ℕ) → 64 * places z ≤ room
+      → (redrawSays (z .mode) (z .depth) (z .columns) (z .rows) (take (r .«tile_bytes») tilesAfter) (take (r .«map_bytes») mapAfter) room ≡ 0)
+      × (drawn (z .mode) (z .depth) (z .columns) (z .rows) (take (r .«tile_bytes») tilesAfter) (take (r .«map_bytes») mapAfter) ≡ cutTo (z .depth) pixels)
+  redrawn-written room enough = rw (written-tiles, written-map) (redrawn-back z pixels (length tiles) (length map) room says-0 enough)
+
+  -- the counts of the answer
+  pub counts : r .tiles + r .discarded ≡ places z
+  counts =
+      ap (λ (x : Picture). x .tiles + x .discarded) (done .0 .answer)
+      ∙ ap (λ (k : ℕ). unless k (length (storedOf z pixels)) 0 + unless k (droppedOf z pixels) 0) says-0
+      ∙ all-counted z pixels
+
+-- two conversions that left the same written bytes were of the same picture, cut to the depth
+pub alike-written : (z : Settings) (pixels tiles map : List ℕ) (r : Picture) (tilesAfter mapAfter : List ℕ) → Done z pixels tiles map r tilesAfter mapAfter
+    → (others tilesOther mapOther : List ℕ) (s : Picture) (tilesFinal mapFinal : List ℕ) → Done z others tilesOther mapOther s tilesFinal mapFinal
+    → take (r .«tile_bytes») tilesAfter ≡ take (s .«tile_bytes») tilesFinal → take (r .«map_bytes») mapAfter ≡ take (s .«map_bytes») mapFinal
+    → cutTo (z .depth) pixels ≡ cutTo (z .depth) others
+alike-written z pixels tiles map r tilesAfter mapAfter done others tilesOther mapOther s tilesFinal mapFinal also t m =
+    alike-pictures z pixels others (length tiles) (length map) (length tilesOther) (length mapOther)
+    (says-0 z pixels tiles map r tilesAfter mapAfter done) (says-0 z others tilesOther mapOther s tilesFinal mapFinal also)
+    (sym (written-tiles z pixels tiles map r tilesAfter mapAfter done) ∙ t ∙ written-tiles z others tilesOther mapOther s tilesFinal mapFinal also)
+    (sym (written-map z pixels tiles map r tilesAfter mapAfter done) ∙ m ∙ written-map z others tilesOther mapOther s tilesFinal mapFinal also)
+
+-- ---- "as by adding to an empty set": adding tiles that are the picture's once they are cut, one after the other, to a new set with room for the
+-- need, of any limit and any store
+
+module _ (z : Settings) (pixels : List ℕ) (limit : ℕ) (store : List ℕ) (ps : List (List ℕ)) where
+  abbrev emptySet : Set
+  emptySet = newSet (z .mode) (z .depth) 8 8 (z .flip) (z .discard) limit
+
+  module _ (size : sizeSays (z .mode) (z .depth) (z .columns) (z .rows) ≡ 0) (cut : map (cutTo (z .depth)) ps ≡ tilesOf z pixels)
+      (room : needOf z pixels ≤ roomIn emptySet (length store)) where
+    -- every add is answered 0
+    pub adds-accepted : adds emptySet store ps ≡ places z
+    adds-accepted = tiles-accepted z pixels size limit store ps cut room
+
+    -- and the set is left with the tiles that the picture stores, and the number that it discards
+    pub adds-store : setTiles (setAtEnd emptySet store ps) (storeAtEnd emptySet store ps) ≡ storedOf z pixels
+    adds-store = tiles-stored z pixels size limit store ps cut room
+
+    pub adds-discard : setAtEnd emptySet store ps .discarded ≡ droppedOf z pixels
+    adds-discard = omega (arith, tiles-sum z pixels size limit store ps cut room, tiles-count z pixels size limit store ps cut room, all-counted z pixels)
+
+-- the picture's tiles are such tiles
+pub tiles-cut-again : (z : Settings) (pixels : List ℕ) → map (cutTo (z .depth)) (tilesOf z pixels) ≡ tilesOf z pixels
+unfolding tilesOf
+tiles-cut-again z pixels = tiles-cut (z .depth) 8 8 (z .columns) pixels (places z)
+
+-- ---- the promise leaves one answer, and one content of each buffer
+
+module _ {n : ℕ} {z : Settings} {pixels tiles map : List ℕ} {r s : Picture} {tilesAfter mapAfter tilesFinal mapFinal : List ℕ}
+    (p : Converts n z pixels tiles map r tilesAfter mapAfter) (q : Converts n z pixels tiles map s tilesFinal mapFinal) where
+  pub one-picture : r ≡ s
+  one-picture = p .answer ∙ sym (q .answer)
+
+  pub one-tiles : tilesAfter ≡ tilesFinal
+  one-tiles = p .lent ∙ sym (q .lent)
+
+  pub one-map : mapAfter ≡ mapFinal
+  one-map = p .alsoLent ∙ sym (q .alsoLent)

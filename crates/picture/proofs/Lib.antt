@@ -1,0 +1,14 @@
+pub mod Checks
+pub mod Cells
+pub mod Kept
+pub mod Converted
+pub mod Taking
+pub mod Storing
+pub mod Promised
+pub mod RedrawChecks
+pub mod Drawing
+pub mod Redrawn
+pub mod Room
+pub mod ByAdding
+pub mod Laws
+pub mod Example

@@ -1,0 +1,85 @@
+-- No entry before i names such a tile.
+use mathlib.Core.Path.{_≡_, refl, sym, ap, _∙_}
+use mathlib.Core.Bool.{false}
+use Prim.Native.Nat.{ℕ, _≤_, _-_}
+use native.Mathlib.Numerals.{add-one}
+use native.Mathlib.Omega.{arith}
+use lib.Dec.{leb}
+use denote.Ref.{now}
+use borrow.Author.Tests.{le-leb, lt-leb}
+use Rattle.words.specs.Loops.{some}
+use Rattle.words.proofs.Loops.{some-true}
+use Rattle.words.proofs.Items.{item-inside}
+use Rattle.mode.specs.Table.{row}
+use Rattle.mapentry.specs.declared.Mapentry.{Mapentry}
+use Rattle.picture.specs.Redrawing.{entryAt}
+use Rattle.picture.proofs.Drawing.{entry-read}
+use borrow.Author.Needs.{needs}
+use Rattle.picture.proofs.names_more.Statement.{statement}
+use Rattle.picture.proofs.names_more.Tie as tie
+
+abbrev Inv-loop : tie.InvT-loop
+Inv-loop mode map count tiles m size i₀ i = (i ≤ count) × (some i (λ i. leb tiles (entryAt mode map i .tile)) ≡ false)
+
+abbrev μ-loop : tie.MeasureT-loop
+μ-loop mode map count tiles m size i₀ i = count - i
+
+mapentry-size-requires : tie.Need-mapentry-size-requires Inv-loop μ-loop
+mapentry-size-requires c κs = c .before .pre .mode
+
+loop-holds : tie.Need-loop-holds Inv-loop μ-loop
+loop-holds c = (omega arith, refl)
+
+mul-get-entry : tie.Need-mul-get-entry Inv-loop μ-loop
+mul-get-entry c =
+    let s = c .before .before .before .before in
+    rw (c .before .before .mapentry-size .ensures) (omega (arith, item-inside (row (s .args .mode) .entry) (s .args .count) (c .before .loop .i) (c .loop-test .taken), s .pre .room))
+
+get-entry-requires : tie.Need-get-entry-requires Inv-loop μ-loop
+get-entry-requires c κs =
+    let s = c .before .before .before .before in
+    (s .pre .mode, s .pre .some, rw (c .before .before .mapentry-size .ensures) (omega (arith, item-inside (row (s .args .mode) .entry) (s .args .count) (c .before .loop .i) (c .loop-test .taken), s .pre .room)))
+
+cast-if1 : tie.Need-cast-if1 Inv-loop μ-loop
+cast-if1 c = search needs
+
+returns : tie.Need-returns Inv-loop μ-loop
+returns c =
+    let a = c .before .before .before .before .before .before .before .args in
+    let i = c .before .before .before .before .loop .i in
+    sym (some-true (a .count) (λ i. leb (a .tiles) (entryAt (a .mode) (now (a .map)) i .tile)) i (c .before .before .before .loop-test .taken) (le-leb (a .tiles) (entryAt (a .mode) (now (a .map)) i .tile) (omega (arith, c .if1 .taken, ap (λ (e : Mapentry). e .tile) (entry-read (a .mode) i (c .before .before .before .before .before .mapentry-size .result) (now (a .map)) (c .before .before .get-entry .ensures) (c .before .before .before .before .before .mapentry-size .ensures))))))
+
+add-i : tie.Need-add-i Inv-loop μ-loop
+add-i c = search needs
+
+loop-less : tie.Need-loop-less Inv-loop μ-loop
+loop-less c = search needs
+
+loop-again : tie.Need-loop-again Inv-loop μ-loop
+loop-again c =
+    let a = c .before .before .before .before .before .before .before .args in
+    let i = c .before .before .before .before .loop .i in
+    (omega arith, rw (add-one, c .before .before .before .before .loop .inv .1) (lt-leb (a .tiles) (entryAt (a .mode) (now (a .map)) i .tile) (omega (arith, c .if1 .left, ap (λ (e : Mapentry). e .tile) (entry-read (a .mode) i (c .before .before .before .before .before .mapentry-size .result) (now (a .map)) (c .before .before .get-entry .ensures) (c .before .before .before .before .before .mapentry-size .ensures))))))
+
+returns-2 : tie.Need-returns-2 Inv-loop μ-loop
+returns-2 c =
+    let a = c .before .before .before .before .args in
+    let e : c .before .loop .i ≡ a .count = omega arith in
+    sym (ap (λ (n : ℕ). some n (λ i. leb (a .tiles) (entryAt (a .mode) (now (a .map)) i .tile))) (sym e) ∙ c .before .loop .inv .1)
+
+pub names-more-spec : {M : Type 1} → statement M
+names-more-spec =
+    tie.close
+    (tie.spec
+    Inv-loop
+    μ-loop
+    mapentry-size-requires
+    loop-holds
+    mul-get-entry
+    get-entry-requires
+    cast-if1
+    returns
+    add-i
+    loop-less
+    loop-again
+    returns-2)

@@ -1,0 +1,84 @@
+-- Eight pixels of each of the first x tiles are put.
+use mathlib.Core.Path.{ap, _∙_}
+use mathlib.Core.List.{List, [], _∷_}
+use Prim.Native.Nat.{ℕ, _≤_, _-_, _+_, _*_}
+use native.Mathlib.Omega.{arith}
+use lib.ListN.{getD}
+use lib.Seq.{sets}
+use denote.Ref.{now}
+use Rattle.words.specs.Loops.{each}
+use Rattle.picture.proofs.Cells.{length-ones}
+use Rattle.picture.proofs.Drawing.{Spreading, spread-none, spread-more, spread-all, row-whole}
+use borrow.Author.Needs.{needs}
+use Rattle.picture.proofs.put_line.Statement.{statement}
+use Rattle.picture.proofs.put_line.Tie as tie
+
+abbrev Inv-loop : tie.InvT-loop
+Inv-loop strip columns y out₀ at x₀ out x = (x ≤ columns) × Spreading (λ x. each 8 (λ j. getD strip (x * 64 + y * 8 + j) 0 ∷ [])) out₀ at x out
+
+abbrev μ-loop : tie.MeasureT-loop
+μ-loop strip columns y out₀ at x₀ out x = columns - x
+
+loop-holds : tie.Need-loop-holds Inv-loop μ-loop
+loop-holds c = (omega arith, spread-none _ _ _)
+
+mul-put-row : tie.Need-mul-put-row Inv-loop μ-loop
+mul-put-row c = omega (arith, c .before .before .before .before .pre .1 .narrow)
+
+mul-put-row-2 : tie.Need-mul-put-row-2 Inv-loop μ-loop
+mul-put-row-2 c = omega (arith, c .before .before .before .before .pre .0)
+
+add-put-row : tie.Need-add-put-row Inv-loop μ-loop
+add-put-row c = omega (arith, c .before .before .before .before .pre .0, c .before .before .before .before .pre .1 .narrow)
+
+mul-put-row-3 : tie.Need-mul-put-row-3 Inv-loop μ-loop
+mul-put-row-3 c = omega (arith, c .before .before .before .before .before .pre .1 .narrow)
+
+add-put-row-2 : tie.Need-add-put-row-2 Inv-loop μ-loop
+add-put-row-2 c = omega (arith, c .before .before .before .before .before .pre .1 .room)
+
+put-row-requires : tie.Need-put-row-requires Inv-loop μ-loop
+put-row-requires c κs =
+    let p = c .before .before .before .before .before .pre in
+    (omega arith, omega (arith, p .0, p .1 .long, c .before .loop-test .taken), omega (arith, p .1 .room, c .before .loop-test .taken, c .before .before .loop .inv .1 .long))
+
+add-x : tie.Need-add-x Inv-loop μ-loop
+add-x c = search needs
+
+loop-less : tie.Need-loop-less Inv-loop μ-loop
+loop-less c = search needs
+
+loop-again : tie.Need-loop-again Inv-loop μ-loop
+loop-again c =
+    let a = c .before .before .before .before .before .before .before .before .args in
+    let lp = c .before .before .before .before .before .loop in
+    let strip = now (a .strip) in (
+      omega arith,
+      spread-more 8 (λ x. length-ones 8 (λ j. getD strip (x * 64 + a .y * 8 + j) 0)) (lp .inv .1)
+          (c .before .before .put-row .ensures ∙ ap (λ (l : List ℕ). sets (lp .out) (a .at + lp .x * 8) l) (row-whole strip (lp .x * 64 + a .y * 8) (λ i. omega (arith, c .before .before .before .before .before .before .before .shared-slice-known .given i)))),
+    )
+
+same-length : tie.Need-same-length Inv-loop μ-loop
+same-length c = c .before .loop .inv .1 .long
+
+returns : tie.Need-returns Inv-loop μ-loop
+returns c = spread-all (c .before .before .before .before .args .columns) (c .before .loop .inv .1) (omega arith)
+
+pub put-line-spec : {M : Type 1} → statement M
+put-line-spec =
+    tie.close
+    (tie.spec
+    Inv-loop
+    μ-loop
+    loop-holds
+    mul-put-row
+    mul-put-row-2
+    add-put-row
+    mul-put-row-3
+    add-put-row-2
+    put-row-requires
+    add-x
+    loop-less
+    loop-again
+    same-length
+    returns)

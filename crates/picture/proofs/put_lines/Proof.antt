@@ -1,0 +1,71 @@
+-- The first y lines are put.
+use Prim.Native.Nat.{_≤_, _-_, _*_}
+use native.Mathlib.Omega.{arith}
+use denote.Ref.{now}
+use Rattle.words.proofs.Items.{item-inside}
+use Rattle.picture.specs.Inner.{lineOf}
+use Rattle.picture.proofs.Drawing.{Spreading, spread-none, spread-more, spread-all, line-length}
+use borrow.Author.Needs.{needs}
+use Rattle.picture.proofs.put_lines.Statement.{statement}
+use Rattle.picture.proofs.put_lines.Tie as tie
+
+abbrev Inv-loop : tie.InvT-loop
+Inv-loop strip columns out₀ at y₀ out y = (y ≤ 8) × Spreading (lineOf strip columns) out₀ at y out
+
+abbrev μ-loop : tie.MeasureT-loop
+μ-loop strip columns out₀ at y₀ out y = 8 - y
+
+loop-holds : tie.Need-loop-holds Inv-loop μ-loop
+loop-holds c = (omega arith, spread-none _ _ _)
+
+mul-put-line : tie.Need-mul-put-line Inv-loop μ-loop
+mul-put-line c = omega (arith, c .before .before .before .before .before .pre .narrow)
+
+mul-put-line-2 : tie.Need-mul-put-line-2 Inv-loop μ-loop
+mul-put-line-2 c = omega (arith, item-inside (c .before .before .before .before .before .args .columns * 8) 8 (c .before .before .loop .y) (c .before .loop-test .taken), c .before .before .before .before .before .pre .room)
+
+add-put-line : tie.Need-add-put-line Inv-loop μ-loop
+add-put-line c = omega (arith, item-inside (c .before .before .before .before .before .args .columns * 8) 8 (c .before .before .loop .y) (c .before .loop-test .taken), c .before .before .before .before .before .pre .room)
+
+put-line-requires : tie.Need-put-line-requires Inv-loop μ-loop
+put-line-requires c κs =
+    let p = c .before .before .before .before .before .pre in (
+      c .before .loop-test .taken,
+      record {
+        narrow = p .narrow;
+        long = p .long;
+        room = omega (arith, item-inside (c .before .before .before .before .before .args .columns * 8) 8 (c .before .before .loop .y) (c .before .loop-test .taken), p .room, c .before .before .loop .inv .1 .long);
+      },
+    )
+
+add-y : tie.Need-add-y Inv-loop μ-loop
+add-y c = search needs
+
+loop-less : tie.Need-loop-less Inv-loop μ-loop
+loop-less c = search needs
+
+loop-again : tie.Need-loop-again Inv-loop μ-loop
+loop-again c = let a = c .before .before .before .before .before .before .before .before .args in (omega arith, spread-more (a .columns * 8) (line-length (now (a .strip)) (a .columns)) (c .before .before .before .before .before .loop .inv .1) (c .before .before .put-line .ensures))
+
+same-length : tie.Need-same-length Inv-loop μ-loop
+same-length c = c .before .loop .inv .1 .long
+
+returns : tie.Need-returns Inv-loop μ-loop
+returns c = spread-all 8 (c .before .loop .inv .1) (omega arith)
+
+pub put-lines-spec : {M : Type 1} → statement M
+put-lines-spec =
+    tie.close
+    (tie.spec
+    Inv-loop
+    μ-loop
+    loop-holds
+    mul-put-line
+    mul-put-line-2
+    add-put-line
+    put-line-requires
+    add-y
+    loop-less
+    loop-again
+    same-length
+    returns)

@@ -1,0 +1,87 @@
+-- The pixels before x are put.
+use mathlib.Core.Path.{_≡_, sym, ap, _∙_}
+use mathlib.Core.List.{[], _∷_}
+use Prim.Native.Nat.{ℕ, _+_, _-_, _%_, _^_}
+use native.Mathlib.Nat.{mod-le}
+use native.Mathlib.Omega.{arith}
+use lib.ListN.{length, getD}
+use denote.Ref.{now}
+use Rattle.words.specs.Loops.{each}
+use Rattle.index.proofs.Putting.{Putting, put-none, put-more, put-all}
+use Rattle.picture.proofs.Cells.{length-ones, number-at}
+use borrow.Author.Needs.{needs}
+use Rattle.picture.proofs.put_row.Statement.{statement}
+use Rattle.picture.proofs.put_row.Tie as tie
+
+abbrev Inv-loop : tie.InvT-loop
+Inv-loop depth pixels from out₀ at x₀ out x = Putting out₀ at (each 8 (λ x. getD pixels (from + x) 0 % 2 ^ depth ∷ [])) x out
+
+abbrev μ-loop : tie.MeasureT-loop
+μ-loop depth pixels from out₀ at x₀ out x = 8 - x
+
+module _ (c : tie.Start Inv-loop μ-loop) where
+  eight : length (each 8 (λ x. getD (now (c .args .pixels)) (c .args .from + x) 0 % 2 ^ c .args .depth ∷ [])) ≡ 8
+  eight = length-ones 8 (λ x. getD (now (c .args .pixels)) (c .args .from + x) 0 % 2 ^ c .args .depth)
+
+loop-holds : tie.Need-loop-holds Inv-loop μ-loop
+loop-holds c = put-none _ _ _
+
+add-wide : tie.Need-add-wide Inv-loop μ-loop
+add-wide c = search needs
+
+shared-slice-read-wide : tie.Need-shared-slice-read-wide Inv-loop μ-loop
+shared-slice-read-wide c = search needs
+
+wide-requires : tie.Need-wide-requires Inv-loop μ-loop
+wide-requires c κs = search needs
+
+low-requires : tie.Need-low-requires Inv-loop μ-loop
+low-requires c κs = search needs
+
+cast-out : tie.Need-cast-out Inv-loop μ-loop
+cast-out c = omega (arith, c .low .ensures, c .before .wide .ensures .1, mod-le (c .before .wide .result) (2 ^ c .before .before .before .before .before .before .before .args .depth))
+
+add-out : tie.Need-add-out Inv-loop μ-loop
+add-out c = search needs
+
+slice-write-out : tie.Need-slice-write-out Inv-loop μ-loop
+slice-write-out c = omega (arith, c .before .before .before .before .loop .inv .long, c .before .before .before .before .before .before .before .pre .2)
+
+add-x : tie.Need-add-x Inv-loop μ-loop
+add-x c = search needs
+
+loop-less : tie.Need-loop-less Inv-loop μ-loop
+loop-less c = search needs
+
+loop-again : tie.Need-loop-again Inv-loop μ-loop
+loop-again c =
+    let s = c .before .before .before .before .before .before .before in
+    let lp = c .before .before .before .before .loop in
+    put-more (lp .inv) (omega (arith, eight s, s .pre .2)) (omega (arith, eight s))
+    (c .low .ensures ∙ ap (λ (k : ℕ). k % 2 ^ s .args .depth) (c .before .wide .ensures .0) ∙ sym (number-at 8 (λ x. getD (now (s .args .pixels)) (s .args .from + x) 0 % 2 ^ s .args .depth) (lp .x) (c .before .before .before .loop-test .taken)))
+
+same-length : tie.Need-same-length Inv-loop μ-loop
+same-length c = search needs
+
+returns : tie.Need-returns Inv-loop μ-loop
+returns c = put-all (c .before .loop .inv) (omega (arith, eight (c .before .before .before .before), c .before .before .before .before .pre .2)) (omega (arith, eight (c .before .before .before .before)))
+
+pub put-row-spec : {M : Type 1} → statement M
+put-row-spec =
+    tie.close
+    (tie.spec
+    Inv-loop
+    μ-loop
+    loop-holds
+    add-wide
+    shared-slice-read-wide
+    wide-requires
+    low-requires
+    cast-out
+    add-out
+    slice-write-out
+    add-x
+    loop-less
+    loop-again
+    same-length
+    returns)

@@ -1,0 +1,96 @@
+-- The rows before y are taken.
+use mathlib.Core.Path.{refl, _∙_}
+use Prim.Native.Nat.{_≤_, _-_}
+use native.Mathlib.Nat.{div-le-self}
+use native.Mathlib.Omega.{arith}
+use denote.Ref.{now}
+use Rattle.tileset.proofs.Writing.{Filling, fill-none, fill-more}
+use Rattle.picture.proofs.Taking.{rowAt, row-length, rows-are, fill-whole, row-there}
+use borrow.Author.Needs.{needs}
+use Rattle.picture.proofs.take_tile.Statement.{statement}
+use Rattle.picture.proofs.take_tile.Tie as tie
+
+abbrev Inv-loop : tie.InvT-loop
+Inv-loop depth pixels columns i tile₀ line corner y₀ tile y = (y ≤ 8) × Filling (rowAt depth columns pixels i) 8 tile₀ y tile
+
+abbrev μ-loop : tie.MeasureT-loop
+μ-loop depth pixels columns i tile₀ line corner y₀ tile y = 8 - y
+
+mul-line : tie.Need-mul-line Inv-loop μ-loop
+mul-line c = search needs
+
+div-corner : tie.Need-div-corner Inv-loop μ-loop
+div-corner c = search needs
+
+mul-corner : tie.Need-mul-corner Inv-loop μ-loop
+mul-corner c = omega (arith, div-le-self (c .before .args .i) (c .before .args .columns), c .before .pre .few)
+
+mul-corner-2 : tie.Need-mul-corner-2 Inv-loop μ-loop
+mul-corner-2 c = omega (arith, c .before .pre .inside)
+
+rem-corner : tie.Need-rem-corner Inv-loop μ-loop
+rem-corner c = search needs
+
+mul-corner-3 : tie.Need-mul-corner-3 Inv-loop μ-loop
+mul-corner-3 c = omega (arith, c .before .pre .inside)
+
+add-corner : tie.Need-add-corner Inv-loop μ-loop
+add-corner c = omega (arith, c .before .pre .inside)
+
+loop-holds : tie.Need-loop-holds Inv-loop μ-loop
+loop-holds c = (omega arith, fill-none _ _ _)
+
+mul-put-row : tie.Need-mul-put-row Inv-loop μ-loop
+mul-put-row c = omega (arith, row-there (c .before .before .before .pre) (c .before .loop .y) (c .loop-test .taken))
+
+add-put-row : tie.Need-add-put-row Inv-loop μ-loop
+add-put-row c = omega (arith, row-there (c .before .before .before .pre) (c .before .loop .y) (c .loop-test .taken))
+
+slice-aggregate-put-row : tie.Need-slice-aggregate-put-row Inv-loop μ-loop
+slice-aggregate-put-row c = search needs
+
+mul-put-row-2 : tie.Need-mul-put-row-2 Inv-loop μ-loop
+mul-put-row-2 c = search needs
+
+put-row-requires : tie.Need-put-row-requires Inv-loop μ-loop
+put-row-requires c κs = (c .before .before .before .before .pre .deep, omega (arith, row-there (c .before .before .before .before .pre) (c .before .before .loop .y) (c .before .loop-test .taken)), omega (arith, c .before .before .loop .inv .1 .long))
+
+add-y : tie.Need-add-y Inv-loop μ-loop
+add-y c = search needs
+
+loop-less : tie.Need-loop-less Inv-loop μ-loop
+loop-less c = search needs
+
+loop-again : tie.Need-loop-again Inv-loop μ-loop
+loop-again c =
+    let a = c .before .before .before .before .before .before .args in
+    (omega arith, fill-more (row-length (a .depth) (a .columns) (now (a .pixels)) (a .i)) (c .before .before .before .before .loop .inv .1) (omega arith) (c .before .put-row .ensures))
+
+returns : tie.Need-returns Inv-loop μ-loop
+returns c =
+    let a = c .before .before .before .args in
+    fill-whole {n = 8} (row-length (a .depth) (a .columns) (now (a .pixels)) (a .i)) (c .before .loop .inv .1) (omega arith) refl ∙ rows-are (a .depth) (a .columns) (now (a .pixels)) (a .i)
+
+pub take-tile-spec : {M : Type 1} → statement M
+take-tile-spec =
+    tie.close
+    (tie.spec
+    Inv-loop
+    μ-loop
+    mul-line
+    div-corner
+    mul-corner
+    mul-corner-2
+    rem-corner
+    mul-corner-3
+    add-corner
+    loop-holds
+    mul-put-row
+    add-put-row
+    slice-aggregate-put-row
+    mul-put-row-2
+    put-row-requires
+    add-y
+    loop-less
+    loop-again
+    returns)

@@ -1,0 +1,66 @@
+//! Pictures: the reading against the unchanged Rust, where document 01 answers 0.
+
+use reading::{MODES, Random, Settings, native_shapes};
+use superfamiconv::{pictures, plain};
+
+/// Settings of every mode and depth that has maps, flips and discarding on and off.
+fn every_settings() -> impl Iterator<Item = Settings> {
+    let shapes = native_shapes().filter(|shape| MODES[shape.mode as usize].entry_bytes > 0);
+    let flagged = shapes.flat_map(|shape| {
+        let flips: &[bool] = if MODES[shape.mode as usize].flips { &[false, true] } else { &[false] };
+        flips.iter().flat_map(move |&flip| [false, true].map(|discard| (shape, flip, discard)))
+    });
+    flagged.map(|(shape, flip, discard)| Settings {
+        mode: shape.mode,
+        depth: shape.depth,
+        flip,
+        discard,
+        limit: 0,
+        palette: (1 << MODES[shape.mode as usize].palette_bits) - 1,
+        columns: 6,
+        rows: 5,
+    })
+}
+
+/// A picture of few pixel values that is its own mirror image in places: left and right, above and below.
+fn pixels(settings: Settings, random: &mut Random) -> Vec<u8> {
+    let (width, height) = (8 * settings.columns as usize, 8 * settings.rows as usize);
+    let quarter = random.pixels(settings.depth, width * height);
+    let sparse = |place: usize| if place.is_multiple_of(29) { quarter[place] } else { 0 };
+    let place = |x: usize, y: usize| y.min(height - 1 - y) * width + x.min(width - 1 - x);
+    (0..height).flat_map(|y| (0..width).map(move |x| place(x, y))).map(sparse).collect()
+}
+
+/// Converted alike; and redrawn alike but at depth 1, where the Rust panics.
+fn same_picture(settings: Settings, pixels: &[u8]) {
+    let Settings { mode, depth, flip, discard, limit, palette, columns, rows } = settings;
+    let theirs = pictures::Settings { mode: plain::mode(mode), depth, flip, discard, limit, palette, columns, rows };
+    let rust = pictures::convert(theirs, pictures::max_tile_count(theirs.mode), pixels);
+    let bytes = plain::to_native_data(&rust.set).unwrap();
+    let (mut tiles, mut map) = (vec![0; bytes.len()], vec![0; rust.map.len()]);
+    let picture = reading::convert(settings, pixels, &mut tiles, &mut map).unwrap();
+    assert_eq!((picture.tiles, picture.discarded), plain::counts(&rust.set), "{settings:?}");
+    assert_eq!((picture.tile_bytes, picture.map_bytes), (bytes.len(), rust.map.len()), "{settings:?}");
+    assert!(tiles == bytes && map == rust.map, "{settings:?}");
+
+    let mut drawn = vec![0; pixels.len()];
+    assert_eq!(reading::redraw(mode, depth, columns, rows, &tiles, &map, &mut drawn), Ok(pixels.len()));
+    assert!(drawn == pixels, "{settings:?}");
+    if depth > 1 {
+        let set = plain::from_native_data(theirs.mode, depth, 8, 8, flip, &bytes).unwrap();
+        assert!(pictures::redraw(&set, theirs, &map).unwrap() == pixels, "{settings:?}");
+    }
+}
+
+#[test]
+fn converted_and_redrawn() {
+    if !superfamiconv::PRESENT {
+        return println!("the reading of pictures against the Rust, {}", superfamiconv::ABSENT);
+    }
+    let mut random = Random::new(4);
+    for settings in every_settings() {
+        for _ in 0..10 {
+            same_picture(settings, &pixels(settings, &mut random));
+        }
+    }
+}
