@@ -23,6 +23,7 @@ mod picture;
 mod raw;
 mod refusal;
 mod set;
+mod sheet;
 mod tile;
 
 pub use color::{Rounding, pack_colors, reduce_channel, scale_up, unpack_colors};
@@ -31,4 +32,5 @@ pub use mode::Mode;
 pub use picture::{Picture, Settings, convert, redraw};
 pub use refusal::Refusal;
 pub use set::{Logical, Native, Place, Set, logical_number, native_number};
+pub use sheet::{LONGEST_TEXT, Ran, run};
 pub use tile::{pack_tile, unpack_tile};

@@ -4,8 +4,10 @@
 //! slice and number: of two lent slices one is `&mut`, and then they do not overlap, or both are only read.
 
 mod picture;
+mod sheet;
 
 pub(crate) use picture::{convert, redraw};
+pub(crate) use sheet::run;
 
 use crate::{Logical, Refusal, Set};
 

@@ -4,8 +4,12 @@
 mod common;
 #[path = "document/pictures.rs"]
 mod pictures;
+#[path = "document/program.rs"]
+mod program;
 #[path = "document/sets.rs"]
 mod sets;
+#[path = "document/sheets.rs"]
+mod sheets;
 #[path = "document/tiles.rs"]
 mod tiles;
 

@@ -44,6 +44,8 @@ use Rattle.rumchivoat.proofs.rumchivoat_convert.Reads as convert
 use Rattle.rumchivoat.proofs.rumchivoat_convert.Kinds as convert-kinds
 use Rattle.rumchivoat.proofs.rumchivoat_redraw.Reads as redraw
 use Rattle.rumchivoat.proofs.rumchivoat_redraw.Kinds as redraw-kinds
+use Rattle.rumchivoat.proofs.rumchivoat_run.Reads as run
+use Rattle.rumchivoat.proofs.rumchivoat_run.Kinds as run-kinds
 
 pub pack-tile-result : OneResult 2 pack-tile-kinds.ps pack-tile-kinds.r pack-tile.Post
 pack-tile-result κs a x y s t p q = one-answer p q
@@ -140,3 +142,9 @@ redraw-result κs a x y s t p q = one-answer p q
 
 pub redraw-content : OneContent 3 redraw-kinds.ps redraw-kinds.r redraw.Post (λ κs s. now (s .1 .1 .1 .1 .1 .1 .0))
 redraw-content κs a x y s t p q = one-content p q
+
+pub run-result : OneResult 2 run-kinds.ps run-kinds.r run.Post
+run-result κs a x y s t p q = p .answer ∙ sym (q .answer)
+
+pub run-content : OneContent 2 run-kinds.ps run-kinds.r run.Post (λ κs s. now (s .1 .0))
+run-content κs a x y s t p q = p .lent ∙ sym (q .lent)

@@ -27,6 +27,7 @@ ghost use Rattle.tileset.specs.Reading.{Reads};
 ghost use Rattle.tileset.specs.Numbers.{nativeSays, firstCell, logicalSays, tileOf};
 ghost use Rattle.picture.specs.Converting.{convertSays, Converts};
 ghost use Rattle.picture.specs.Redrawing.{redrawSays, drawn};
+ghost use Rattle.sheet.specs.Program.{numberOf, textOf, Ran};
 ghost use Rattle.rumchivoat.specs.Station.{roundingOf, entryFrom, settingsFrom};
 
 #[no_mangle]
@@ -298,4 +299,11 @@ pub extern "C" fn rumchivoat_redraw(
     ensures { λ r. ⌜ Wrote (redrawSays mode depth columns rows (now (tiles .entry)) (now (map .entry)) (length (now (out .entry)))) (drawn mode depth columns rows (now (tiles .entry)) (now (map .entry))) (now (out .entry)) r (now (out .exit)) ⌝ }
 {
     picture::redraw(mode, depth, columns, rows, tiles, map, out)
+}
+
+#[no_mangle]
+pub extern "C" fn rumchivoat_run(input: &[u8], out: &mut [u8]) -> Written
+    ensures { λ r. ⌜ Ran (numberOf (now (input .entry))) (textOf (now (input .entry))) (now (out .entry)) r (now (out .exit)) ⌝ }
+{
+    sheet::run(input, out)
 }

@@ -2,10 +2,12 @@
 //!
 //! `cargo run --release --offline --bin bench` in host/. For each call and mode it prints the median processor time of
 //! one colour, entry or tile on either side, and the ratio: above 1 the port is the faster. Tiles are of each depth,
-//! sprites of the smallest and the largest size; of a set, one add or one look-up; of a picture, one of its tiles.
+//! sprites of the smallest and the largest size; of a set, one add or one look-up; of a picture, one of its tiles. A
+//! second table has the port alone: `run` on the largest sheets beside `convert` on their pictures.
 
 mod pictures;
 mod sets;
+mod sheets;
 
 use std::fs;
 use std::hint::black_box;
@@ -67,6 +69,7 @@ fn main() {
     table.extend(pictures::lines(&mut random).inspect(print_line));
     let slowest = table.iter().min_by(|a, b| a.ratio().total_cmp(&b.ratio())).expect("the table has lines");
     println!("\nleast ratio: {:.2}, {} in {}", slowest.ratio(), slowest.call, slowest.mode);
+    sheets::print_table(&mut random);
 }
 
 fn print_line(line: &Measured) {
@@ -133,14 +136,20 @@ fn measured(
     call: &'static str,
     mode: impl Into<String>,
     items: usize,
-    mut port: impl FnMut(),
-    mut rust: impl FnMut(),
+    port: impl FnMut(),
+    rust: impl FnMut(),
 ) -> Measured {
-    let times = (times_for_a_run(&mut port), times_for_a_run(&mut rust));
-    let runs = (0..RUNS).map(|_| (nanoseconds(times.0, &mut port), nanoseconds(times.1, &mut rust)));
-    let (port, rust): (Vec<f64>, Vec<f64>) = runs.unzip();
+    let (port, rust) = turn_about(items, port, rust);
+    Measured { call, mode: mode.into(), items, port, rust }
+}
+
+/// The median times of two calls for one of so many items, run turn about.
+fn turn_about(items: usize, mut first: impl FnMut(), mut second: impl FnMut()) -> (f64, f64) {
+    let times = (times_for_a_run(&mut first), times_for_a_run(&mut second));
+    let runs = (0..RUNS).map(|_| (nanoseconds(times.0, &mut first), nanoseconds(times.1, &mut second)));
+    let (first, second): (Vec<f64>, Vec<f64>) = runs.unzip();
     let for_one = |times| median(times) / items as f64;
-    Measured { call, mode: mode.into(), items, port: for_one(port), rust: for_one(rust) }
+    (for_one(first), for_one(second))
 }
 
 /// 256 colours, or the four of gb and ws; ngp packs 256 and unpacks four.

@@ -11,6 +11,7 @@ mod modes;
 mod pictures;
 mod random;
 mod sets;
+mod sheets;
 mod tiles;
 
 pub use channel::{reduce_channel, scale_up};
@@ -23,6 +24,7 @@ pub use sets::{
     Place, Set, flipped, logical_number, native_number, set_add, set_look_up, set_new, set_read, set_reset, set_shapes,
     set_sizes, set_write,
 };
+pub use sheets::{KEYS, Text, run};
 pub use tiles::{Shape, native_shapes, pack_tile, unpack_tile};
 
 /// A value, or the number of a refusal.

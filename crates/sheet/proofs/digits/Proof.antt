@@ -1,0 +1,98 @@
+use borrow.Author.Needs.{needs}
+use Prim.Native.Nat.{_≤_, _-_}
+use mathlib.Core.Path.{_≡_, _∙_, sym}
+use native.Mathlib.Omega.{arith}
+use lib.ListN.{length, drop}
+use Rattle.sheet.specs.Numbers.{digitsFrom}
+use Rattle.sheet.proofs.Reading.{digits-low, digits-high, digits-over, digits-more, digits-end}
+use Rattle.sheet.proofs.digits.Statement.{statement}
+use Rattle.sheet.proofs.digits.Tie as tie
+
+abbrev Inv-loop : tie.InvT-loop
+Inv-loop s n₀ i₀ n i = (i ≤ length s) × (n ≤ 4294967295) × (digitsFrom s 0 ≡ digitsFrom (drop i s) n)
+
+abbrev μ-loop : tie.MeasureT-loop
+μ-loop s n₀ i₀ n i = length s - i
+
+loop-holds : tie.Need-loop-holds Inv-loop μ-loop
+loop-holds c = search needs
+
+shared-slice-read-wide : tie.Need-shared-slice-read-wide Inv-loop μ-loop
+shared-slice-read-wide c = search needs
+
+wide-requires : tie.Need-wide-requires Inv-loop μ-loop
+wide-requires c κs = search needs
+
+cast-b : tie.Need-cast-b Inv-loop μ-loop
+cast-b c = search needs
+
+returns : tie.Need-returns Inv-loop μ-loop
+returns c =
+    let l = c .before .before .before .before in
+    sym
+    (l .loop .inv .2
+    ∙ digits-low (l .before .before .args .s .now) (l .loop .i) (l .loop .n) (c .before .wide .result) (omega arith) (c .before .wide .ensures .0) (omega arith))
+
+returns-2 : tie.Need-returns-2 Inv-loop μ-loop
+returns-2 c =
+    let l = c .before .before .before .before .before in
+    sym
+    (l .loop .inv .2
+    ∙ digits-high (l .before .before .args .s .now) (l .loop .i) (l .loop .n) (c .before .before .wide .result) (omega arith) (c .before .before .wide .ensures .0) (omega arith) (omega arith))
+
+mul-next : tie.Need-mul-next Inv-loop μ-loop
+mul-next c = search needs
+
+add-next : tie.Need-add-next Inv-loop μ-loop
+add-next c = search needs
+
+returns-3 : tie.Need-returns-3 Inv-loop μ-loop
+returns-3 c =
+    let l = c .before .before .before .before .before .before in
+    sym
+    (l .loop .inv .2
+    ∙ digits-over (l .before .before .args .s .now) (l .loop .i) (l .loop .n) (c .before .before .before .wide .result) (omega arith) (c .before .before .before .wide .ensures .0) (omega arith) (omega arith) (omega arith))
+
+add-i : tie.Need-add-i Inv-loop μ-loop
+add-i c = search needs
+
+loop-less : tie.Need-loop-less Inv-loop μ-loop
+loop-less c = search needs
+
+loop-again : tie.Need-loop-again Inv-loop μ-loop
+loop-again c =
+    let l = c .before .before .before .before .before .before in (
+      omega arith,
+      omega arith,
+      l .loop .inv .2
+          ∙ digits-more (l .before .before .args .s .now) (l .loop .i) (l .loop .n) (c .before .before .before .wide .result) (omega arith) (c .before .before .before .wide .ensures .0) (omega arith) (omega arith) (omega arith),
+    )
+
+cast-t13 : tie.Need-cast-t13 Inv-loop μ-loop
+cast-t13 c = search needs
+
+returns-4 : tie.Need-returns-4 Inv-loop μ-loop
+returns-4 c =
+    let l = c .before in
+    sym (l .loop .inv .2 ∙ digits-end (l .before .before .args .s .now) (l .loop .i) (l .loop .n) (omega arith))
+
+pub digits-spec : {M : Type 1} → statement M
+digits-spec =
+    tie.close
+    (tie.spec
+    Inv-loop
+    μ-loop
+    loop-holds
+    shared-slice-read-wide
+    wide-requires
+    cast-b
+    returns
+    returns-2
+    mul-next
+    add-next
+    returns-3
+    add-i
+    loop-less
+    loop-again
+    cast-t13
+    returns-4)

@@ -1,0 +1,76 @@
+use mathlib.Core.Path.{sym, _∙_}
+use native.Mathlib.Omega.{arith}
+use lib.ListN.{length-take}
+use Rattle.sheet.proofs.Reading.{line-short, line-keyed, line-other}
+use Rattle.sheet.proofs.Writing.{held-length}
+use borrow.Author.Needs.{needs}
+use Rattle.sheet.proofs.line_says.Statement.{statement}
+use Rattle.sheet.proofs.line_says.Tie as tie
+
+key-requires : tie.Need-key-requires
+key-requires c κs = search needs
+
+sub-n : tie.Need-sub-n
+sub-n c = search needs
+
+returns : tie.Need-returns
+returns c =
+    let key = c .before .before .key .ensures in
+    sym (line-short (c .before .before .before .before .args .k) (c .before .before .before .before .args .line .now) _ _ (key .content) (held-length key) (c .if1 .taken))
+
+slice-aggregate-same-bytes : tie.Need-slice-aggregate-same-bytes
+slice-aggregate-same-bytes c = simp length-take (omega arith)
+
+sub-same-bytes : tie.Need-sub-same-bytes
+sub-same-bytes c = search needs
+
+part-same-bytes-start : tie.Need-part-same-bytes-start
+part-same-bytes-start c = search needs
+
+part-same-bytes-end : tie.Need-part-same-bytes-end
+part-same-bytes-end c = omega arith
+
+same-bytes-requires : tie.Need-same-bytes-requires
+same-bytes-requires c κs = search needs
+
+sub-text-says : tie.Need-sub-text-says
+sub-text-says c = search needs
+
+part-text-says-start : tie.Need-part-text-says-start
+part-text-says-start c = search needs
+
+part-text-says-end : tie.Need-part-text-says-end
+part-text-says-end c = search needs
+
+text-says-requires : tie.Need-text-says-requires
+text-says-requires c κs = search needs
+
+returns-2 : tie.Need-returns-2
+returns-2 c =
+    let key = c .before .before .before .before .before .before .before .before .before .key .ensures in
+    c .text-says .ensures
+    ∙ sym (line-keyed (c .before .before .before .before .before .before .before .before .before .before .before .args .k) (c .before .before .before .before .before .before .before .before .before .before .before .args .line .now) _ _ (key .content) (held-length key) (sym (c .before .before .before .same-bytes .ensures) ∙ c .before .before .if2 .taken))
+
+returns-3 : tie.Need-returns-3
+returns-3 c =
+    let key = c .before .before .before .before .before .before .before .key .ensures in
+    sym (line-other (c .before .before .before .before .before .before .before .before .before .args .k) (c .before .before .before .before .before .before .before .before .before .args .line .now) _ _ (key .content) (held-length key) (sym (c .before .same-bytes .ensures) ∙ c .if2 .left))
+
+pub line-says-spec : {M : Type 1} → statement M
+line-says-spec =
+    tie.close
+    (tie.spec
+    key-requires
+    sub-n
+    returns
+    slice-aggregate-same-bytes
+    sub-same-bytes
+    part-same-bytes-start
+    part-same-bytes-end
+    same-bytes-requires
+    sub-text-says
+    part-text-says-start
+    part-text-says-end
+    text-says-requires
+    returns-2
+    returns-3)

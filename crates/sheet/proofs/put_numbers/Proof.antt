@@ -1,0 +1,78 @@
+use borrow.Author.Needs.{needs}
+use Prim.Native.Nat.{_+_, _*_, _-_, _≤_}
+use mathlib.Core.Path.{_≡_}
+use native.Mathlib.Omega.{arith}
+use lib.ListN.{length}
+use Rattle.words.specs.Loops.{each}
+use Rattle.sheet.specs.Report.{numberLine}
+use Rattle.sheet.specs.Inner.{Puts}
+use Rattle.sheet.proofs.Writing.{puts-none, number-put, key-inside, all-numbers}
+use Rattle.sheet.proofs.put_numbers.Statement.{statement}
+use Rattle.sheet.proofs.put_numbers.Tie as tie
+
+abbrev Inv-loop : tie.InvT-loop
+Inv-loop out₀ at values end₀ i₀ out end i = (i ≤ 9) × (end ≤ at + i * 21) × (length out ≡ length out₀) × Puts (each i (numberLine values)) at out₀ end out
+
+abbrev μ-loop : tie.MeasureT-loop
+μ-loop out₀ at values end₀ i₀ out end i = 9 - i
+
+loop-holds : tie.Need-loop-holds Inv-loop μ-loop
+loop-holds c = (omega arith, omega arith, search needs, puts-none _ _)
+
+mul-put-line : tie.Need-mul-put-line Inv-loop μ-loop
+mul-put-line c = search needs
+
+array-read-put-line : tie.Need-array-read-put-line Inv-loop μ-loop
+array-read-put-line c = search needs
+
+mul-numeral : tie.Need-mul-numeral Inv-loop μ-loop
+mul-numeral c = search needs
+
+array-read-numeral : tie.Need-array-read-numeral Inv-loop μ-loop
+array-read-numeral c = search needs
+
+numeral-requires : tie.Need-numeral-requires Inv-loop μ-loop
+numeral-requires c κs = search needs
+
+put-line-requires : tie.Need-put-line-requires Inv-loop μ-loop
+put-line-requires c κs = (key-inside (c .before .before .before .loop .i) (c .before .before .loop-test .taken), search needs, omega arith)
+
+add-i : tie.Need-add-i Inv-loop μ-loop
+add-i c = search needs
+
+loop-less : tie.Need-loop-less Inv-loop μ-loop
+loop-less c = search needs
+
+loop-again : tie.Need-loop-again Inv-loop μ-loop
+loop-again c =
+    let l = c .before .before .before .before .before .before .loop in (
+      omega arith,
+      omega arith,
+      search needs,
+      number-put (c .before .before .before .before .before .before .before .before .args .t3) (l .i) _ _ _ _ _ _ _ (c .before .before .before .numeral .ensures) (l .inv .3) (c .before .before .put-line .ensures .0),
+    )
+
+same-length : tie.Need-same-length Inv-loop μ-loop
+same-length c = search needs
+
+returns : tie.Need-returns Inv-loop μ-loop
+returns c = (all-numbers _ (c .before .loop .i) _ _ _ _ (omega arith) (c .before .loop .inv .3), omega arith)
+
+pub put-numbers-spec : {M : Type 1} → statement M
+put-numbers-spec =
+    tie.close
+    (tie.spec
+    Inv-loop
+    μ-loop
+    loop-holds
+    mul-put-line
+    array-read-put-line
+    mul-numeral
+    array-read-numeral
+    numeral-requires
+    put-line-requires
+    add-i
+    loop-less
+    loop-again
+    same-length
+    returns)

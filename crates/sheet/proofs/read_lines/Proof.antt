@@ -1,0 +1,124 @@
+use Rattle.picture.specs.declared.Settings.{Settings}
+use Rattle.sheet.specs.declared.Sheet.the-variants.{Read}
+use borrow.Author.Needs.{needs}
+use Prim.Native.Nat.{_-_, _≤_}
+use mathlib.Core.Path.{_≡_, refl, sym, ap, _∙_}
+use native.Mathlib.Omega.{arith}
+use lib.ListN.{length, length-take, length-drop, length-set}
+use Rattle.sheet.specs.Sheet.{linesIn, linesFrom}
+use Rattle.sheet.proofs.Reading.{rest-all, lines-cut, lines-wrong, lines-more, lines-end}
+use Rattle.sheet.proofs.read_lines.Statement.{statement}
+use Rattle.sheet.proofs.read_lines.Tie as tie
+
+abbrev Inv-loop : tie.InvT-loop
+Inv-loop s values₀ at₀ k₀ values at k = (k ≤ 8) × (at ≤ length s) × (length values ≡ 8) × (linesIn s ≡ linesFrom s (8 - k) k values at)
+
+abbrev μ-loop : tie.MeasureT-loop
+μ-loop s values₀ at₀ k₀ values at k = 8 - k
+
+loop-holds : tie.Need-loop-holds Inv-loop μ-loop
+unfolding linesIn
+loop-holds c = (omega arith, omega arith, search needs, refl)
+
+sub-rest : tie.Need-sub-rest Inv-loop μ-loop
+sub-rest c = search needs
+
+part-rest-start : tie.Need-part-rest-start Inv-loop μ-loop
+part-rest-start c = search needs
+
+part-rest-end : tie.Need-part-rest-end Inv-loop μ-loop
+part-rest-end c = search needs
+
+line-length-requires : tie.Need-line-length-requires Inv-loop μ-loop
+line-length-requires c κs = search needs
+
+returns : tie.Need-returns Inv-loop μ-loop
+returns c =
+    let l = c .before .before .before .before .loop in
+    let s = c .before .before .before .before .before .before .args .s .now in
+    sym
+    (l .inv .3
+    ∙ lines-cut s (l .k) (l .values) (l .at) (c .before .line-length .result) _ (rest-all s (l .at)) (c .before .before .before .loop-test .taken) (c .before .line-length .ensures .0) (c .if1 .taken))
+
+slice-aggregate-line-says : tie.Need-slice-aggregate-line-says Inv-loop μ-loop
+slice-aggregate-line-says c = simp (length-take, length-drop) (omega arith)
+
+line-says-requires : tie.Need-line-says-requires Inv-loop μ-loop
+line-says-requires c κs = search needs
+
+enum-known-v : tie.Need-enum-known-v Inv-loop μ-loop
+enum-known-v c = search needs
+
+enum-told : tie.Need-enum-told Inv-loop μ-loop
+enum-told c = search needs
+
+returns-2 : tie.Need-returns-2 Inv-loop μ-loop
+returns-2 c =
+    let l = c .before .before .before .before .before .before .before .before .loop in
+    let s = c .before .before .before .before .before .before .before .before .before .before .args .s .now in
+    sym
+    (l .inv .3
+    ∙ lines-wrong s (l .k) (l .values) (l .at) (c .before .before .before .before .before .line-length .result) _ (rest-all s (l .at)) (c .before .before .before .before .before .before .before .loop-test .taken) (c .before .before .before .before .before .line-length .ensures .0) (c .before .before .before .before .if1 .left) (sym (c .before .before .line-says .ensures) ∙ c .enum-told .given .1))
+
+mul-values : tie.Need-mul-values Inv-loop μ-loop
+mul-values c = search needs
+
+array-write-values : tie.Need-array-write-values Inv-loop μ-loop
+array-write-values c = search needs
+
+add-at : tie.Need-add-at Inv-loop μ-loop
+add-at c = search needs
+
+add-at-2 : tie.Need-add-at-2 Inv-loop μ-loop
+add-at-2 c = search needs
+
+add-k : tie.Need-add-k Inv-loop μ-loop
+add-k c = search needs
+
+loop-less : tie.Need-loop-less Inv-loop μ-loop
+loop-less c = search needs
+
+loop-again : tie.Need-loop-again Inv-loop μ-loop
+loop-again c =
+    let l = c .before .before .before .before .before .before .before .before .before .loop in
+    let s = c .before .before .before .before .before .before .before .before .before .before .before .args .s .now in
+    let end = c .before .before .before .before .before .before .line-length .result in (
+      omega arith,
+      omega (arith, simp (length-take, length-drop) at (c .before .before .before .before .before .if1 .left)),
+      simp length-set (omega arith),
+      l .inv .3
+          ∙ lines-more s (l .k) (l .values) (l .at) end _ (rest-all s (l .at)) (c .before .before .before .before .before .before .before .before .loop-test .taken) (c .before .before .before .before .before .before .line-length .ensures .0) (c .before .v .given .0 .0) (c .before .before .before .before .before .if1 .left) (sym (c .before .before .before .line-says .ensures) ∙ c .before .v .given .1),
+    )
+
+settings-requires : tie.Need-settings-requires Inv-loop μ-loop
+settings-requires c κs = search needs
+
+returns-3 : tie.Need-returns-3 Inv-loop μ-loop
+returns-3 c = ap (λ (z : Settings). Read z (c .before .before .loop .at)) (c .settings .ensures) ∙ sym (c .before .before .loop .inv .3 ∙ lines-end (c .before .before .before .before .args .s .now) (c .before .before .loop .k) (c .before .before .loop .values) (c .before .before .loop .at) (omega arith))
+
+pub read-lines-spec : {M : Type 1} → statement M
+read-lines-spec =
+    tie.close
+    (tie.spec
+    Inv-loop
+    μ-loop
+    loop-holds
+    sub-rest
+    part-rest-start
+    part-rest-end
+    line-length-requires
+    returns
+    slice-aggregate-line-says
+    line-says-requires
+    enum-known-v
+    enum-told
+    returns-2
+    mul-values
+    array-write-values
+    add-at
+    add-at-2
+    add-k
+    loop-less
+    loop-again
+    settings-requires
+    returns-3)

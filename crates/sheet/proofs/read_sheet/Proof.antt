@@ -1,0 +1,60 @@
+use mathlib.Core.Path.{sym, _∙_}
+use native.Mathlib.Omega.{arith}
+use Rattle.sheet.proofs.Reading.{sheet-read, sheet-other, sheet-wrong}
+use Rattle.sheet.proofs.Limits.{bounded, area-small}
+use borrow.Author.Needs.{needs}
+use Rattle.sheet.proofs.read_sheet.Statement.{statement}
+use Rattle.sheet.proofs.read_sheet.Tie as tie
+
+read-lines-requires : tie.Need-read-lines-requires
+read-lines-requires c κs = search needs
+
+enum-known-z : tie.Need-enum-known-z
+enum-known-z c = search needs
+
+cast-pixels : tie.Need-cast-pixels
+cast-pixels c = search needs
+
+cast-pixels-2 : tie.Need-cast-pixels-2
+cast-pixels-2 c = search needs
+
+mul-pixels : tie.Need-mul-pixels
+mul-pixels c = omega (arith, area-small _ _ _ (bounded _ _ _ (sym (c .before .before .before .before .before .read-lines .ensures) ∙ c .before .before .before .z .given .1)))
+
+mul-pixels-2 : tie.Need-mul-pixels-2
+mul-pixels-2 c = omega (arith, area-small _ _ _ (bounded _ _ _ (sym (c .before .before .before .before .before .read-lines .ensures) ∙ c .before .before .before .z .given .1)))
+
+sub-if1 : tie.Need-sub-if1
+sub-if1 c = bounded _ _ _ (sym (c .before .before .before .before .before .read-lines .ensures) ∙ c .before .before .before .z .given .1) .inside
+
+returns : tie.Need-returns
+returns c =
+    let read = sym (c .before .before .before .before .before .before .read-lines .ensures) ∙ c .before .before .before .before .z .given .1 in
+    sheet-read _ read (bounded _ _ _ read .inside) (c .if1 .taken)
+
+returns-2 : tie.Need-returns-2
+returns-2 c =
+    let read = sym (c .before .before .before .before .before .before .read-lines .ensures) ∙ c .before .before .before .before .z .given .1 in
+    sheet-other _ read (bounded _ _ _ read .inside) (c .if1 .left)
+
+enum-told : tie.Need-enum-told
+enum-told c = search needs
+
+returns-3 : tie.Need-returns-3
+returns-3 c = sheet-wrong _ (sym (c .before .before .read-lines .ensures) ∙ c .enum-told .given .1)
+
+pub read-sheet-spec : {M : Type 1} → statement M
+read-sheet-spec =
+    tie.close
+    (tie.spec
+    read-lines-requires
+    enum-known-z
+    cast-pixels
+    cast-pixels-2
+    mul-pixels
+    mul-pixels-2
+    sub-if1
+    returns
+    returns-2
+    enum-told
+    returns-3)

@@ -1,0 +1,43 @@
+use native.Mathlib.Omega.{arith}
+use lib.ListN.{length-take}
+use Rattle.sheet.proofs.Writing.{puts-length, told-front, refused-told}
+use borrow.Author.Needs.{needs}
+use Rattle.sheet.proofs.refuse.Statement.{statement}
+use Rattle.sheet.proofs.refuse.Tie as tie
+
+slice-aggregate-put-line : tie.Need-slice-aggregate-put-line
+slice-aggregate-put-line c = search needs
+
+numeral-requires : tie.Need-numeral-requires
+numeral-requires c κs = search needs
+
+put-line-requires : tie.Need-put-line-requires
+put-line-requires c κs = search needs
+
+array-share-prefix-text : tie.Need-array-share-prefix-text
+array-share-prefix-text c = omega (arith, puts-length (c .before .put-line .ensures .0))
+
+slice-aggregate-tell : tie.Need-slice-aggregate-tell
+slice-aggregate-tell c = simp length-take (omega (arith, puts-length (c .before .before .put-line .ensures .0)))
+
+tell-requires : tie.Need-tell-requires
+tell-requires c κs = search needs
+
+same-length : tie.Need-same-length
+same-length c = search needs
+
+returns : tie.Need-returns
+returns c = refused-told _ _ _ (c .before .before .before .before .before .before .before .numeral .ensures) (told-front _ _ _ _ _ (search needs) (c .before .before .before .before .before .before .put-line .ensures .0) (c .before .before .tell .ensures))
+
+pub refuse-spec : {M : Type 1} → statement M
+refuse-spec =
+    tie.close
+    (tie.spec
+    slice-aggregate-put-line
+    numeral-requires
+    put-line-requires
+    array-share-prefix-text
+    slice-aggregate-tell
+    tell-requires
+    same-length
+    returns)

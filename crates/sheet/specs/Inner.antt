@@ -1,0 +1,39 @@
+-- What the functions inside the program promise each other.
+-- Assumes nothing.
+use Prim.Native.Nat.{ℕ, _+_, _-_, _≤_, _<_}
+use mathlib.Core.Path.{_≡_}
+use mathlib.Core.List.{List}
+use lib.ListN.{length, take, drop}
+use lib.Seq.{sets}
+use Rattle.picture.specs.declared.Settings.{Settings}
+use Rattle.picture.specs.declared.Picture.{Picture}
+use Rattle.sheet.specs.declared.Text.{Text}
+
+-- The bytes of a text, and a text that is these bytes.
+abbrev pub textIn : Text → List ℕ
+textIn t = take (t .to - t .from) (drop (t .from) (t .bytes))
+
+pub record Kept (t : Text) : Type 0 where
+  pub size : length (t .bytes) ≡ 10
+  pub order : t .from ≤ t .to
+  pub end : t .to ≤ 10
+
+pub record Holds (t : Text) (text : List ℕ) : Type 0 where
+  pub kept : Kept t
+  pub content : textIn t ≡ text
+
+-- Bytes put from a place on: where they end, and all that is lent.
+pub record Puts (bytes : List ℕ) (at : ℕ) (before : List ℕ) (r : ℕ) (after : List ℕ) : Type 0 where
+  pub end : r ≡ at + length bytes
+  pub lent : after ≡ sets before at bytes
+
+-- What a report is made of.
+pub record Tellable (z : Settings) (p : Picture) : Type 0 where
+  pub known : z .mode < 16
+  pub tileLength : p .«tile_bytes» ≤ 65536
+  pub mapLength : p .«map_bytes» ≤ 2048
+
+pub record Reportable (z : Settings) (p : Picture) (tiles map : List ℕ) : Type 0 where
+  pub tellable : Tellable z p
+  pub tileRoom : length tiles ≤ 65536
+  pub mapRoom : length map ≤ 2048
