@@ -1,3 +1,4 @@
+-- What was written is a part of out.
 use native.Mathlib.Omega.{arith}
 use lib.ListN.{length-take}
 use Rattle.sheet.proofs.Telling.{ran-inside}

@@ -1,3 +1,4 @@
+-- A case takes a byte at least, so that the cases end.
 use borrow.Author.Needs.{needs}
 use Prim.Native.Nat.{_≤_, _-_}
 use lib.ListN.{length}

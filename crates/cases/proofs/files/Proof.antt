@@ -1,3 +1,4 @@
+-- One file after the other.
 use borrow.Author.Needs.{needs}
 use Prim.Native.Nat.{_-_}
 use Rattle.cases.proofs.files.Statement.{statement}

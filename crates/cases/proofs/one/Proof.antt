@@ -1,3 +1,4 @@
+-- Every part that is looked at lies inside s.
 use mathlib.Core.Path.{sym}
 use lib.Seq.{length-take-le}
 use native.Mathlib.Omega.{arith}

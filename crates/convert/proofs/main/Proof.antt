@@ -1,3 +1,4 @@
+-- What was read, and what was written, are parts of the buffers.
 use native.Mathlib.Omega.{arith}
 use lib.ListN.{length-take}
 use Rattle.sheet.proofs.Telling.{ran-inside}

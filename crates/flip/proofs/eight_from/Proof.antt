@@ -1,3 +1,4 @@
+-- Counted from the row's other end where the flip is on.
 use Rattle.flip.proofs.Eights.{from-turned}
 use native.Mathlib.Omega.{arith}
 use borrow.Author.Needs.{needs}

@@ -1,3 +1,4 @@
+-- Each value at its place in the word.
 use mathlib.Core.Path.{ap, _∙_}
 use Rattle.mapentry.specs.Places.{readAt}
 use Rattle.mapentry.specs.declared.Places.{Places}

@@ -1,3 +1,4 @@
+-- The checks in the order of their numbers.
 use mathlib.Core.Path.{ap}
 use Rattle.words.proofs.Answers.{last-given}
 use Rattle.mapentry.specs.Entry.{misfitOf, misfitSays}

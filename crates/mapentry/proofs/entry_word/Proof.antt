@@ -1,3 +1,4 @@
+-- The values, each moved up to its place, are the word that the fields make.
 use mathlib.Core.Path.{_≡_, ap, _∙_}
 use Prim.Native.Nat.{_+_, _<_}
 use native.Mathlib.Omega.{arith}

@@ -1,3 +1,4 @@
+-- What is above the low byte of the word.
 use mathlib.Core.Path.{sym, ap, _∙_, subst}
 use Prim.Native.Nat.{ℕ, _/_}
 use Rattle.words.proofs.Answers.{refused-number, given-number}

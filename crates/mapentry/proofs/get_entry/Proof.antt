@@ -1,3 +1,4 @@
+-- The word at a place, and the entry that it holds.
 use mathlib.Core.Path.{_∙_}
 use native.Mathlib.Omega.{arith}
 use Rattle.mapentry.proofs.Laws.{small}

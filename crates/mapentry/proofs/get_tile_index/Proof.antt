@@ -1,3 +1,4 @@
+-- The tile index as a word of its own.
 use mathlib.Core.Path.{refl, sym, ap, _∙_}
 use mathlib.Core.Bool.{false}
 use Prim.Native.Nat.{ℕ}

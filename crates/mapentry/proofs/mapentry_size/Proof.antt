@@ -1,3 +1,4 @@
+-- A row of the table for each arm.
 use mathlib.Core.Path.{sym, ap}
 use Prim.Native.Nat.{ℕ}
 use Rattle.mode.specs.Table.{row}

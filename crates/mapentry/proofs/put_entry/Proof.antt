@@ -1,3 +1,4 @@
+-- The word of the entry, put at the place.
 use mathlib.Core.Path.{_∙_}
 use native.Mathlib.Omega.{arith}
 use Rattle.mapentry.proofs.Laws.{small, some-byte}

@@ -1,3 +1,4 @@
+-- The length, then each value at its place.
 use mathlib.Core.Path.{_≡_, ap, _∙_}
 use mathlib.Core.List.{List}
 use Prim.Native.Nat.{ℕ}

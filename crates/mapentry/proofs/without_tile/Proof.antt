@@ -1,3 +1,4 @@
+-- In gbc the tile index stays.
 use borrow.Author.Tests.{eq-eqb, ne-eqb}
 use Rattle.mapentry.proofs.without_tile.Statement.{statement}
 use Rattle.mapentry.proofs.without_tile.Tie as tie

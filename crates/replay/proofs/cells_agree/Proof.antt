@@ -1,3 +1,4 @@
+-- Each field of the line is inside the line.
 use native.Mathlib.Omega.{arith}
 use lib.ListN.{length-take}
 use borrow.Author.Needs.{needs}

@@ -1,3 +1,4 @@
+-- The field that begins at from has come to i.
 use mathlib.Core.Logic.{⊎-elim}
 use native.Mathlib.Omega.{arith}
 use borrow.Author.Needs.{needs}

@@ -1,3 +1,4 @@
+-- The line has come to i.
 use borrow.Author.Needs.{needs}
 use Prim.Native.Nat.{_≤_, _-_}
 use lib.ListN.{length}

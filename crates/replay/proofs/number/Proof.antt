@@ -1,3 +1,4 @@
+-- Every byte that is read is inside s.
 use borrow.Author.Needs.{needs}
 use Prim.Native.Nat.{_≤_, _-_}
 use lib.ListN.{length}

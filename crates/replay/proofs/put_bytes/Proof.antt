@@ -1,3 +1,4 @@
+-- No more bytes are put than out has.
 use mathlib.Core.Path.{_≡_}
 use borrow.Author.Needs.{needs}
 use Prim.Native.Nat.{_≤_, _-_}

@@ -1,3 +1,4 @@
+-- There are no more lines, and no more differences, than bytes passed.
 use borrow.Author.Needs.{needs}
 use Prim.Native.Nat.{_≤_, _-_, _+_}
 use lib.ListN.{length}

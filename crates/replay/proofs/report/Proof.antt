@@ -1,3 +1,4 @@
+-- One kind after the other.
 use borrow.Author.Needs.{needs}
 use Prim.Native.Nat.{_≤_, _-_}
 use Rattle.replay.proofs.report.Statement.{statement}

@@ -1,3 +1,4 @@
+-- The tiles and answers looked at are inside theirs, and the store keeps its length.
 use mathlib.Core.Path.{_≡_}
 use Prim.Native.Nat.{_≤_, _-_}
 use lib.ListN.{length}

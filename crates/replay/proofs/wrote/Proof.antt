@@ -1,3 +1,4 @@
+-- The part written, and the part after it, are inside out.
 use native.Mathlib.Omega.{arith}
 use lib.ListN.{length-take}
 use borrow.Author.Needs.{needs}

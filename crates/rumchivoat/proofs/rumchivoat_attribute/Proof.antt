@@ -1,3 +1,4 @@
+-- The entry of the plain numbers.
 use borrow.Author.Needs.{needs}
 use Rattle.rumchivoat.proofs.rumchivoat_attribute.Statement.{statement}
 use Rattle.rumchivoat.proofs.rumchivoat_attribute.Tie as tie

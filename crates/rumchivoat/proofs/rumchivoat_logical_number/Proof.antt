@@ -1,3 +1,4 @@
+-- The number, out of its tuple struct.
 use borrow.Author.Needs.{needs}
 use Rattle.rumchivoat.proofs.rumchivoat_logical_number.Statement.{statement}
 use Rattle.rumchivoat.proofs.rumchivoat_logical_number.Tie as tie

@@ -1,3 +1,4 @@
+-- The number, out of its tuple struct.
 use borrow.Author.Needs.{needs}
 use Rattle.rumchivoat.proofs.rumchivoat_native_number.Statement.{statement}
 use Rattle.rumchivoat.proofs.rumchivoat_native_number.Tie as tie

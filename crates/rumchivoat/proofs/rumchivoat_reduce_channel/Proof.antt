@@ -1,3 +1,4 @@
+-- The rounding of the plain bool.
 use borrow.Author.Needs.{needs}
 use Rattle.rumchivoat.proofs.rumchivoat_reduce_channel.Statement.{statement}
 use Rattle.rumchivoat.proofs.rumchivoat_reduce_channel.Tie as tie

@@ -1,3 +1,4 @@
+-- The picture's refusal, or its report with the bytes that were written.
 use native.Mathlib.Omega.{arith}
 use Prim.Native.Nat.{ℕ}
 use lib.ListN.{length-take, length-replicate}

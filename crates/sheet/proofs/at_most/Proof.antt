@@ -1,3 +1,4 @@
+-- A number above the top tells nothing.
 use Rattle.sheet.proofs.Reading.{small-enough, too-large}
 use borrow.Author.Needs.{needs}
 use Rattle.sheet.proofs.at_most.Statement.{statement}

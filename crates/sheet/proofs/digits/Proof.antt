@@ -1,3 +1,4 @@
+-- The digits before i gave n, and the rest is read after them.
 use borrow.Author.Needs.{needs}
 use Prim.Native.Nat.{_≤_, _-_}
 use mathlib.Core.Path.{_≡_, _∙_, sym}

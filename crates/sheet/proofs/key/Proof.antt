@@ -1,3 +1,4 @@
+-- The code's table of keys is the definition's.
 use Rattle.sheet.proofs.Tables.{key-held}
 use borrow.Author.Needs.{needs}
 use Rattle.sheet.proofs.key.Statement.{statement}

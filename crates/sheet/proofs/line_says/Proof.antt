@@ -1,3 +1,4 @@
+-- The key, byte by byte, then the text.
 use mathlib.Core.Path.{sym, _∙_}
 use native.Mathlib.Omega.{arith}
 use lib.ListN.{length-take}

@@ -1,3 +1,4 @@
+-- The number of the mode that is named.
 use mathlib.Core.Path.{sym, ap, _∙_}
 use Rattle.sheet.specs.Sheet.{modeTold}
 use borrow.Author.Needs.{needs}

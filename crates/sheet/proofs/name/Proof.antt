@@ -1,3 +1,4 @@
+-- The code's table of names is the definition's.
 use Rattle.sheet.proofs.Tables.{name-held}
 use borrow.Author.Needs.{needs}
 use Rattle.sheet.proofs.name.Statement.{statement}

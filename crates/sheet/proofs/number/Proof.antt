@@ -1,3 +1,4 @@
+-- 0 alone may begin with 0.
 use mathlib.Core.Path.{sym, _∙_}
 use Rattle.sheet.proofs.Reading.{number-none, number-zero, number-leading, number-digits}
 use borrow.Author.Needs.{needs}

@@ -1,3 +1,4 @@
+-- The digits from place from on are written, and left has those before them.
 use borrow.Author.Needs.{needs}
 use Prim.Native.Nat.{_+_, _-_, _/_, _^_, _<_, _≤_}
 use mathlib.Core.Path.{_≡_, sym}

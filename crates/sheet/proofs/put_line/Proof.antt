@@ -1,3 +1,4 @@
+-- The key, the text and the newline, one after the other.
 use native.Mathlib.Omega.{arith}
 use Rattle.sheet.proofs.Writing.{line-put}
 use borrow.Author.Needs.{needs}

@@ -1,3 +1,4 @@
+-- The line of the mode, then those of numbers.
 use Rattle.sheet.proofs.Writing.{report-put}
 use borrow.Author.Needs.{needs}
 use Rattle.sheet.proofs.put_report.Statement.{statement}

@@ -1,3 +1,4 @@
+-- The lines before k told the values, and the rest is read from place at on.
 use Rattle.picture.specs.declared.Settings.{Settings}
 use Rattle.sheet.specs.declared.Sheet.the-variants.{Read}
 use borrow.Author.Needs.{needs}

@@ -1,3 +1,4 @@
+-- The lines, then the number of bytes after them.
 use mathlib.Core.Path.{sym, _∙_}
 use native.Mathlib.Omega.{arith}
 use Rattle.sheet.proofs.Reading.{sheet-read, sheet-other, sheet-wrong}

@@ -1,3 +1,4 @@
+-- The line of the refusal is the whole text.
 use native.Mathlib.Omega.{arith}
 use lib.ListN.{length-take}
 use Rattle.sheet.proofs.Writing.{puts-length, told-front, refused-told}

@@ -1,3 +1,4 @@
+-- The lines, the tile bytes and the map bytes, one after the other, are the whole text.
 use native.Mathlib.Omega.{arith}
 use lib.ListN.{length-take}
 use Rattle.sheet.proofs.Writing.{puts-more, told-front}

@@ -1,3 +1,4 @@
+-- A sheet is answered as its picture, anything else with 14.
 use mathlib.Core.Path.{sym, _∙_}
 use native.Mathlib.Omega.{arith}
 use Rattle.sheet.proofs.Limits.{sheet-bounded}

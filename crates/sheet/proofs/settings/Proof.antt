@@ -1,3 +1,4 @@
+-- Each value at its line's place.
 use mathlib.Core.Path.{refl}
 use Rattle.sheet.specs.Sheet.{settingsOf}
 use borrow.Author.Needs.{needs}

@@ -1,3 +1,4 @@
+-- The text, or 11 where it does not fit.
 use Rattle.sheet.proofs.Writing.{no-room, told}
 use borrow.Author.Needs.{needs}
 use Rattle.sheet.proofs.tell.Statement.{statement}

@@ -1,3 +1,4 @@
+-- A name in the first line, a number in the others.
 use mathlib.Core.Path.{sym, ap, _∙_}
 use Rattle.sheet.specs.Numbers.{atMost}
 use Rattle.sheet.specs.Sheet.{topOf}

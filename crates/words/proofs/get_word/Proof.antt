@@ -1,3 +1,4 @@
+-- One byte, or two in either order.
 use mathlib.Core.Path.{_≡_}
 use native.Mathlib.Omega.{arith}
 use denote.Ref.{now}

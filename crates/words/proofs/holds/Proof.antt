@@ -1,3 +1,4 @@
+-- Nothing is left above the bits.
 use mathlib.Core.Path.{ap, _∙_}
 use Prim.Native.Nat.{ℕ}
 use lib.Dec.{eqb}

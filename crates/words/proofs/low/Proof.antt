@@ -1,3 +1,4 @@
+-- The mask keeps the bits below it.
 use Prim.Native.Nat.{_*_, _%_, _^_}
 use mathlib.Core.Path.{_≡_}
 use native.Mathlib.Nat.{mod-eq-of-lt, one-mul}

@@ -1,3 +1,4 @@
+-- A refusal tells no number.
 use Prim.Native.Nat.{ℕ}
 use Rattle.words.proofs.Answers.{either-way}
 use Rattle.words.proofs.no_number.Statement.{statement}

@@ -1,3 +1,4 @@
+-- A refusal tells no length.
 use Prim.Native.Nat.{ℕ}
 use Rattle.words.proofs.Answers.{either-way}
 use Rattle.words.proofs.refused.Statement.{statement}

@@ -1,3 +1,4 @@
+-- Moving up is multiplying.
 use native.Mathlib.Nat.{mod-eq-of-lt}
 use Rattle.words.proofs.Bits.{up-small}
 use borrow.Author.Needs.{needs}

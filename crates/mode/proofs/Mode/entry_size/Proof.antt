@@ -1,21 +1,18 @@
+-- A number of the mode's row.
 use Rattle.words.proofs.Bytes.{read-off}
 use borrow.Author.Needs.{needs}
 use Rattle.mode.proofs.Mode.entry_size.Statement.{statement}
 use Rattle.mode.proofs.Mode.entry_size.Tie as tie
 
--- src/lib.rt:126:17
 row-requires : tie.Need-row-requires
 row-requires c κs = search needs
 
--- src/lib.rt:127:21
 array-read-wide : tie.Need-array-read-wide
 array-read-wide c = search needs
 
--- src/lib.rt:127:9
 wide-requires : tie.Need-wide-requires
 wide-requires c κs = search needs
 
--- src/lib.rt:122:5
 returns : tie.Need-returns
 returns c = read-off 4 (c .wide .ensures .0) (c .before .row .ensures)
 

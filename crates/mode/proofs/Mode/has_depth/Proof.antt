@@ -1,3 +1,4 @@
+-- The three depths of the row, the last again where there are fewer.
 use mathlib.Core.Path.{sym, ap, _∙_}
 use Prim.Native.Nat.{ℕ}
 use lib.Dec.{eqb}

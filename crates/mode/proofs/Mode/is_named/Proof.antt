@@ -1,3 +1,4 @@
+-- The bytes of the name, without the zeros after it.
 use mathlib.Core.Path.{sym, ap, _∙_}
 use mathlib.Core.List.{List, []}
 use Prim.Native.Nat.{ℕ}

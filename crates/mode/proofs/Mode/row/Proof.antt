@@ -1,3 +1,4 @@
+-- The code's table is the definition's.
 use Rattle.mode.proofs.Tables.{row-right}
 use borrow.Author.Needs.{needs}
 use Rattle.mode.proofs.Mode.row.Statement.{statement}

@@ -1,3 +1,4 @@
+-- A number of the mode's row.
 use Rattle.words.proofs.Bytes.{read-off}
 use borrow.Author.Needs.{needs}
 use Rattle.mode.proofs.Mode.top.Statement.{statement}
