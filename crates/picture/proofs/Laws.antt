@@ -180,16 +180,3 @@ module _ (z : Settings) (pixels : List ℕ) (limit : ℕ) (store : List ℕ) (ps
 pub tiles-cut-again : (z : Settings) (pixels : List ℕ) → map (cutTo (z .depth)) (tilesOf z pixels) ≡ tilesOf z pixels
 unfolding tilesOf
 tiles-cut-again z pixels = tiles-cut (z .depth) 8 8 (z .columns) pixels (places z)
-
--- ---- the promise leaves one answer, and one content of each buffer
-
-module _ {n : ℕ} {z : Settings} {pixels tiles map : List ℕ} {r s : Picture} {tilesAfter mapAfter tilesFinal mapFinal : List ℕ}
-    (p : Converts n z pixels tiles map r tilesAfter mapAfter) (q : Converts n z pixels tiles map s tilesFinal mapFinal) where
-  pub one-picture : r ≡ s
-  one-picture = p .answer ∙ sym (q .answer)
-
-  pub one-tiles : tilesAfter ≡ tilesFinal
-  one-tiles = p .lent ∙ sym (q .lent)
-
-  pub one-map : mapAfter ≡ mapFinal
-  one-map = p .alsoLent ∙ sym (q .alsoLent)

@@ -11,7 +11,8 @@ use Rattle.tileset.specs.History.{matchesSome}
 use Rattle.tileset.specs.declared.Found.{Found}
 use Rattle.tileset.specs.declared.Found.the-variants.{At, Nothing}
 
--- The stored tiles after one more: "with discarding on, a match stores nothing; otherwise the tile goes at the end". And after some more.
+-- The stored tiles after one more: "With discarding on, a match adds one to discarded and stores nothing; otherwise the tile goes at the end, or 12"
+-- (the 12 is a picture's own, counted by its need). And after some more.
 unfoldable pub keep : Bool → Bool → ℕ → ℕ → List (List ℕ) → List ℕ → List (List ℕ)
 keep discard on w h stored tile = cond (discard && isFound (lookUp on w h stored tile)) stored (stored ++ tile ∷ [])
 
@@ -35,7 +36,7 @@ again on w h earlier (t ∷ ts) = bit (matchesSome on w h earlier t) + again on 
 unfoldable pub need : Bool → Bool → ℕ → ℕ → List (List ℕ) → ℕ
 need discard on w h tiles = cond discard (fresh on w h [] tiles) (length tiles)
 
--- "Discarded is the number of those whose tile matched one accepted earlier (0 with discarding off)."
+-- "Discarded is the number of those whose tile matched one read or accepted earlier (0 with discarding off)": of a picture, an earlier tile.
 unfoldable pub dropped : Bool → Bool → ℕ → ℕ → List (List ℕ) → ℕ
 dropped discard on w h tiles = cond discard (again on w h [] tiles) 0
 

@@ -107,11 +107,3 @@ inside-case n len room false r t e = rw e (ltb-false room len t)
 module _ {n : ℕ} {text before : List ℕ} {r : Written} {after : List ℕ} (p : Ran n text before r after) where
   pub ran-inside : r .written ≤ length before
   ran-inside = inside-case n (length text) (length before) (ltb (length before) (length text)) r refl (p .answer)
-
-  -- the promise leaves one answer and one content
-  module _ {s : Written} {final : List ℕ} (q : Ran n text before s final) where
-    pub one-answer : r ≡ s
-    one-answer = p .answer ∙ sym (q .answer)
-
-    pub one-content : after ≡ final
-    one-content = p .lent ∙ sym (q .lent)

@@ -1,17 +1,15 @@
 -- The laws of document 01's "Sets and whole tiles", as a reader wants them.
 -- Assumes nothing.
-use mathlib.Core.Path.{_≡_, refl, ap}
+use mathlib.Core.Path.{_≡_, refl}
 use mathlib.Core.Bool.{Bool, true, false}
 use mathlib.Core.List.{List, []}
 use Prim.Native.Nat.{ℕ, _+_, _-_, _*_, _/_, _<_, _≤_}
-use native.Mathlib.Nat.{mul-div-cancel}
 use native.Mathlib.Omega.{arith}
 use Rattle.tileset.specs.Sets.{emptied}
 use Rattle.tileset.specs.Finding.{tilesIn}
 use Rattle.tileset.specs.History.{setAtEnd, storeAtEnd, accepted, repeats, tilesOf, Apart}
-use Rattle.tileset.specs.Numbers.{rowCells, startsAt, belongsTo, firstCell, tileOf, Grid}
-use Rattle.tileset.specs.Writing.{paddedCells, cellCount}
-use Rattle.tileset.specs.Reading.{wholeTiles, readCount, readableSays, readSet}
+use Rattle.tileset.specs.Numbers.{rowCells, firstCell, Grid}
+use Rattle.tileset.specs.Reading.{readCount, readableSays, readSet}
 use Rattle.tileset.specs.declared.Set.{Set}
 use Rattle.tileset.proofs.Sizes.{set-of, grid-set}
 use Rattle.tileset.proofs.Reading.{readable-mode, readable-says-set, cells-before, tile-complete, next-incomplete}
@@ -70,22 +68,3 @@ module _ (m d w h : ℕ) (z : readableSays m d w h ≡ 0) (len : ℕ) where
   -- and the last cell of the tile after them is not
   pub read-stops : len / (d * 8) ≤ firstCell m w h (readCount m d w h len) + (h / 8 - 1) * rowCells m + (w / 8 - 1)
   read-stops = next-incomplete (rowCells m) (w / 8) (h / 8) grid (len / (d * 8))
-
--- "(l) snes 16x16: tile 8 at 32, cell 33 in tile 8"
-pub example-l-first : firstCell 0 16 16 8 ≡ 32
-unfolding startsAt
-example-l-first = refl
-
-pub example-l-tile : tileOf 0 16 16 33 ≡ 8
-unfolding belongsTo
-example-l-tile = refl
-
--- "nine tiles write 64 cells"
-pub example-l-cells : cellCount 0 16 16 9 ≡ 64
-unfolding cellCount paddedCells
-example-l-cells = refl
-
--- "and read as 16", at any depth
-pub example-l-read : (d : ℕ) → 0 < d → readCount 0 d 16 16 (64 * (d * 8)) ≡ 16
-unfolding wholeTiles
-example-l-read d some = ap (λ (k : ℕ). wholeTiles 16 2 2 k) (mul-div-cancel 64 {n = d * 8} (omega arith))
