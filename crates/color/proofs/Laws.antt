@@ -8,7 +8,7 @@ use native.Mathlib.Omega.{arith}
 use lib.Dec.{T, ltb, eqb}
 use lib.ListN.{length, getD}
 use borrow.Author.Tests.{ltb-false, le-ltb}
-use Rattle.words.specs.Answers.{_when_, lowest}
+use Rattle.words.specs.Answers.{_when_, firstApplying}
 use Rattle.words.specs.Bytes.{areBytes}
 use Rattle.words.proofs.Answers.{all-passed, not-given}
 use Rattle.mode.specs.Table.{row, ngp}
@@ -23,28 +23,28 @@ use Rattle.color.proofs.Channels.{component-back}
 use Rattle.color.proofs.Trips.{pack-mode, unpack-mode, back-case, again-either, count-case, accepted}
 
 -- "Colours return where alpha is 255 and, in gray modes, r = g = b."
-pub colors-return : (m : ℕ) (cs : List ℕ) (room : ℕ) → packSays m cs room ≡ 0 → Returning m cs → unpacked m (packed m cs) ≡ cs
-colors-return m cs room e r =
-    let h = pack-mode m cs room e in
-    back-case m h cs room (packs (layoutOf m) cs room (sym (pack-by-layout m cs room h) ∙ e)) r (coloring m .four) refl
+pub colors-return : (m : ℕ) (cs : List ℕ) (space : ℕ) → packSays m cs space ≡ 0 → Returning m cs → unpacked m (packed m cs) ≡ cs
+colors-return m cs space e r =
+    let h = pack-mode m cs space e in
+    back-case m h cs space (packs (layoutOf m) cs space (sym (pack-by-layout m cs space h) ∙ e)) r (coloring m .four) refl
 
 -- "Bytes return where unused bits are 0."
-pub bytes-return : (m : ℕ) (bs : List ℕ) (room : ℕ) → unpackSays m (length bs) room ≡ 0 → T (areBytes bs)
+pub bytes-return : (m : ℕ) (bs : List ℕ) (space : ℕ) → unpackSays m (length bs) space ≡ 0 → T (areBytes bs)
     → ((i : ℕ) → i < length bs / coloring m .size → getD (valuesIn m bs i) 5 0 ≡ 0) → packed m (unpacked m bs) ≡ bs
-bytes-return m bs room e b clear =
-    let h = unpack-mode m (length bs) room e in
-    let u = unpacks (layoutOf m) (length bs) room (sym (unpack-by-layout m (length bs) room h) ∙ e) in
+bytes-return m bs space e b clear =
+    let h = unpack-mode m (length bs) space e in
+    let u = unpacks (layoutOf m) (length bs) space (sym (unpack-by-layout m (length bs) space h) ∙ e) in
     again-either m h bs (readable-right m h (length bs) ∙ u .whole) b clear (coloring m .four) refl
 
 -- "For ngp only where there are four": nothing else is refused but a buffer too short.
-pub unpack-packed : (m : ℕ) (cs : List ℕ) (room : ℕ) → packSays m cs room ≡ 0 → (free : ℕ)
-    → unpackSays m (length (packed m cs)) free ≡ lowest (7 when (eqb m ngp && not (eqb (length cs) 16)) ∷ 11 when ltb free (length cs) ∷ [])
+pub unpack-packed : (m : ℕ) (cs : List ℕ) (space : ℕ) → packSays m cs space ≡ 0 → (free : ℕ)
+    → unpackSays m (length (packed m cs)) free ≡ firstApplying (7 when (eqb m ngp && not (eqb (length cs) 16)) ∷ 11 when ltb free (length cs) ∷ [])
 unfolding unpackSays
-unpack-packed m cs room e free =
-    let h = pack-mode m cs room e in
+unpack-packed m cs space e free =
+    let h = pack-mode m cs space e in
     let le : m ≤ 15 = omega arith in
-    let p = packs (layoutOf m) cs room (sym (pack-by-layout m cs room h) ∙ e) in
-    rw (le-ltb 15 m le, count-case m h cs room p (coloring m .four) refl, length-packed m cs, accepted m h (length cs) (p .whole))
+    let p = packs (layoutOf m) cs space (sym (pack-by-layout m cs space h) ∙ e) in
+    rw (le-ltb 15 m le, count-case m h cs space p (coloring m .four) refl, length-packed m cs, accepted m h (length cs) (p .whole))
 
 -- "255 x result differs from value x m by at most 127."
 pub nearest-near : (top v : ℕ) → (255 * reduced Nearest top v ≤ v * top + 127) × (v * top ≤ 255 * reduced Nearest top v + 127)

@@ -126,28 +126,28 @@ pub length-packed : (m : ℕ) (cs : List ℕ) → length (packed m cs) ≡ packe
 length-packed m cs = length-case m cs (coloring m .four) refl
 
 -- the checks that go by the layout are those that go by the mode
-pub pack-no-mode : (m : ℕ) (cs : List ℕ) (room : ℕ) → 15 < m → packSays m cs room ≡ 1
+pub pack-no-mode : (m : ℕ) (cs : List ℕ) (space : ℕ) → 15 < m → packSays m cs space ≡ 1
 unfolding packSays
-pack-no-mode m cs room h = rw (lt-ltb 15 m h)
+pack-no-mode m cs space h = rw (lt-ltb 15 m h)
 
-pub pack-by-layout : (m : ℕ) (cs : List ℕ) (room : ℕ) → m < 16 → packSays m cs room ≡ packChecks (layoutOf m) cs room
+pub pack-by-layout : (m : ℕ) (cs : List ℕ) (space : ℕ) → m < 16 → packSays m cs space ≡ packChecks (layoutOf m) cs space
 unfolding packSays packChecks
-pack-by-layout m cs room h =
+pack-by-layout m cs space h =
     let le : m ≤ 15 = omega arith in
     rw (le-ltb 15 m le)
 
 -- what no refusal says
-pub record Packs (l : Layout) (cs : List ℕ) (room : ℕ) : Type 0 where
+pub record Packs (l : Layout) (cs : List ℕ) (space : ℕ) : Type 0 where
   pub whole : packable (l .four) (length cs) ≡ true
   pub low : some (length cs / 4) (above (l .top) cs) ≡ false
-  pub fits : packedSize (l .four) (l .size) (length cs) ≤ room
+  pub fits : packedSize (l .four) (l .size) (length cs) ≤ space
 
-pub packs : (l : Layout) (cs : List ℕ) (room : ℕ) → packChecks l cs room ≡ 0 → Packs l cs room
+pub packs : (l : Layout) (cs : List ℕ) (space : ℕ) → packChecks l cs space ≡ 0 → Packs l cs space
 unfolding packChecks
-packs l cs room e =
+packs l cs space e =
     let seven = 7 when not (packable (l .four) (length cs)) in
     let nine = 9 when some (length cs / 4) (above (l .top) cs) in
-    let eleven = 11 when ltb room (packedSize (l .four) (l .size) (length cs)) in
+    let eleven = 11 when ltb space (packedSize (l .four) (l .size) (length cs)) in
     let passed = all-passed (seven ∷ nine ∷ eleven ∷ []) e in
     record {
       whole = not-false _ (not-given 6 _ (passed 0));
@@ -156,18 +156,18 @@ packs l cs room e =
     }
 
 -- so the colours of a word of four are there, and so are all
-pub four-within : (l : Layout) (cs : List ℕ) (room : ℕ) → Packs l cs room → l .four ≡ true → AllWithin (l .top) cs 4
-four-within l cs room p many =
+pub four-within : (l : Layout) (cs : List ℕ) (space : ℕ) → Packs l cs space → l .four ≡ true → AllWithin (l .top) cs 4
+four-within l cs space p many =
     let all : length cs ≡ 16 = eqb-true (length cs) 16 (rw many at (p .whole)) in
     record { there = omega arith; low = rw all at (p .low) }
 
-pub words-within : (l : Layout) (cs : List ℕ) (room : ℕ) → Packs l cs room → AllWithin (l .top) cs (length cs / 4)
-words-within l cs room p = record { there = omega arith; low = p .low }
+pub words-within : (l : Layout) (cs : List ℕ) (space : ℕ) → Packs l cs space → AllWithin (l .top) cs (length cs / 4)
+words-within l cs space p = record { there = omega arith; low = p .low }
 
 -- the code's layout is the mode's
 module _ (m : ℕ) (h : m < 16) (cs : List ℕ) (l : Layout) (is : l ≡ layoutOf m) where
-  pub packs-says : (room : ℕ) → packChecks l cs room ≡ packSays m cs room
-  packs-says room = rw is (sym (pack-by-layout m cs room h))
+  pub packs-says : (space : ℕ) → packChecks l cs space ≡ packSays m cs space
+  packs-says space = rw is (sym (pack-by-layout m cs space h))
 
   pub packs-size : packedSize (l .four) (l .size) (length cs) ≡ length (packed m cs)
   packs-size = rw is (sym (length-packed m cs))

@@ -77,7 +77,7 @@ gray-at m cs (suc (suc zero)) lt = refl
 gray-at m cs (suc (suc (suc zero))) lt = refl
 gray-at m cs (suc (suc (suc (suc i)))) lt = omega arith
 
-module _ (m : ℕ) (h : m < 16) (cs : List ℕ) (room : ℕ) (p : Packs (layoutOf m) cs room) (r : Returning m cs) where
+module _ (m : ℕ) (h : m < 16) (cs : List ℕ) (space : ℕ) (p : Packs (layoutOf m) cs space) (r : Returning m cs) where
   module _ (i : ℕ) (lt : i < length cs / 4) where
     red : getD cs (4 * i) 0 ≤ row m .top
     red = red-low (row m .top) cs i (none-at (length cs / 4) (above (row m .top) cs) (p .low) i lt)
@@ -128,11 +128,11 @@ one-of-sixteen n m wrong e true t =
     absurd never
 one-of-sixteen n m wrong e false t = omega (arith, ltb-false 15 m t)
 
-pub pack-mode : (m : ℕ) (cs : List ℕ) (room : ℕ) → packSays m cs room ≡ 0 → m < 16
-pack-mode m cs room e = one-of-sixteen (packSays m cs room) m (pack-no-mode m cs room) e (ltb 15 m) refl
+pub pack-mode : (m : ℕ) (cs : List ℕ) (space : ℕ) → packSays m cs space ≡ 0 → m < 16
+pack-mode m cs space e = one-of-sixteen (packSays m cs space) m (pack-no-mode m cs space) e (ltb 15 m) refl
 
-pub unpack-mode : (m len room : ℕ) → unpackSays m len room ≡ 0 → m < 16
-unpack-mode m len room e = one-of-sixteen (unpackSays m len room) m (unpack-no-mode m len room) e (ltb 15 m) refl
+pub unpack-mode : (m len space : ℕ) → unpackSays m len space ≡ 0 → m < 16
+unpack-mode m len space e = one-of-sixteen (unpackSays m len space) m (unpack-no-mode m len space) e (ltb 15 m) refl
 
 -- ---- bytes return
 
@@ -204,8 +204,8 @@ module _ (m : ℕ) (h : m < 16) (bs : List ℕ) (whole : unpackable m (length bs
     part-back =
         let size = coloring m .size in
         let rest = drop (i * size) bs in
-        let room : size ≤ length rest = omega (arith, length-drop (i * size) bs, item-inside size (length bs / size) i lt, whole-words m h (length bs) whole) in
-        bytes-back (coloring m .fields) size (coloring m .most) (fields-right m h) (fields-full m h) (take size rest) (bytes-take size rest (bytes-drop (i * size) bs b)) (length-take-le size rest room)
+        let space : size ≤ length rest = omega (arith, length-drop (i * size) bs, item-inside size (length bs / size) i lt, whole-words m h (length bs) whole) in
+        bytes-back (coloring m .fields) size (coloring m .most) (fields-right m h) (fields-full m h) (take size rest) (bytes-take size rest (bytes-drop (i * size) bs b)) (length-take-le size rest space)
 
     byte-at : coloring m .four ≡ false → (j at : ℕ) → j < 4 → at ≡ i * 4 + j → getD (unpacked m bs) at 0 ≡ getD (colorWith m (valuesIn m bs i)) j 0
     byte-at one j at small e =
@@ -249,7 +249,7 @@ module _ (m : ℕ) (h : m < 16) (bs : List ℕ) (whole : unpackable m (length bs
 -- ---- unpacking what was packed
 
 -- as many bytes as four a colour
-module _ (m : ℕ) (h : m < 16) (cs : List ℕ) (room : ℕ) (p : Packs (layoutOf m) cs room) where
+module _ (m : ℕ) (h : m < 16) (cs : List ℕ) (space : ℕ) (p : Packs (layoutOf m) cs space) where
   pub count-case : (b : Bool) → coloring m .four ≡ b → 4 * colorCount (coloring m .four) (coloring m .size) (length (packed m cs)) ≡ length cs
   count-case true e = rw e (sym (eqb-true (length cs) 16 (rw e at (p .whole))))
   count-case false e =

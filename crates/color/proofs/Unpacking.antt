@@ -51,7 +51,7 @@ put-bytes l at a b c d =
 -- four colours put one by one
 pub put-colors : (l a b c d : List ℕ) → length a ≡ 4 → length b ≡ 4 → length c ≡ 4 → length d ≡ 4 → 16 ≤ length l
     → sets (sets (sets (sets l 0 a) 4 b) 8 c) 12 d ≡ overwrite l (((a ++ b) ++ c) ++ d)
-put-colors l a b c d ha hb hc hd room =
+put-colors l a b c d ha hb hc hd space =
     let ab = length-append a b in
     let abc = length-append (a ++ b) c in
     let all : length (((a ++ b) ++ c) ++ d) ≡ 16 = omega (arith, length-append ((a ++ b) ++ c) d) in
@@ -81,9 +81,9 @@ pub length-unpacked : (m : ℕ) (bs : List ℕ) → length (unpacked m bs) ≡ c
 length-unpacked m bs = length-case m bs (coloring m .four) refl
 
 -- the checks that go by the layout are those that go by the mode
-pub unpack-no-mode : (m len room : ℕ) → 15 < m → unpackSays m len room ≡ 1
+pub unpack-no-mode : (m len space : ℕ) → 15 < m → unpackSays m len space ≡ 1
 unfolding unpackSays
-unpack-no-mode m len room h = rw (lt-ltb 15 m h)
+unpack-no-mode m len space h = rw (lt-ltb 15 m h)
 
 -- ngp is the one mode whose words have one gray
 pub readable-right : (m : ℕ) → m < 16 → (len : ℕ) → unpackable m len ≡ readable (layoutOf m) len
@@ -91,30 +91,30 @@ unfolding coloring
 readable-right =
     by-mode (λ m. (len : ℕ) → unpackable m len ≡ readable (layoutOf m) len) (λ len. refl) (λ len. refl) (λ len. refl) (λ len. refl) (λ len. refl) (λ len. refl) (λ len. refl) (λ len. refl) (λ len. refl) (λ len. refl) (λ len. refl) (λ len. refl) (λ len. refl) (λ len. refl) (λ len. refl) (λ len. refl)
 
-pub unpack-by-layout : (m len room : ℕ) → m < 16 → unpackSays m len room ≡ unpackChecks (layoutOf m) len room
+pub unpack-by-layout : (m len space : ℕ) → m < 16 → unpackSays m len space ≡ unpackChecks (layoutOf m) len space
 unfolding unpackSays unpackChecks
-unpack-by-layout m len room h =
+unpack-by-layout m len space h =
     let le : m ≤ 15 = omega arith in
     rw (le-ltb 15 m le, readable-right m h len)
 
 -- what no refusal says
-pub record Unpacks (l : Layout) (len room : ℕ) : Type 0 where
+pub record Unpacks (l : Layout) (len space : ℕ) : Type 0 where
   pub whole : readable l len ≡ true
-  pub fits : 4 * colorCount (l .four) (l .size) len ≤ room
+  pub fits : 4 * colorCount (l .four) (l .size) len ≤ space
 
-pub unpacks : (l : Layout) (len room : ℕ) → unpackChecks l len room ≡ 0 → Unpacks l len room
+pub unpacks : (l : Layout) (len space : ℕ) → unpackChecks l len space ≡ 0 → Unpacks l len space
 unfolding unpackChecks
-unpacks l len room e =
-    let passed = all-passed (7 when not (readable l len) ∷ 11 when ltb room (4 * colorCount (l .four) (l .size) len) ∷ []) e in
+unpacks l len space e =
+    let passed = all-passed (7 when not (readable l len) ∷ 11 when ltb space (4 * colorCount (l .four) (l .size) len) ∷ []) e in
     record { whole = not-false _ (not-given 6 _ (passed 0)); fits = ltb-false _ _ (not-given 10 _ (passed 1)) }
 
-pub four-whole : (l : Layout) (len room : ℕ) → Unpacks l len room → l .four ≡ true → len ≡ l .size
-four-whole l len room p many = eqb-true len (l .size) (rw many at (p .whole))
+pub four-whole : (l : Layout) (len space : ℕ) → Unpacks l len space → l .four ≡ true → len ≡ l .size
+four-whole l len space p many = eqb-true len (l .size) (rw many at (p .whole))
 
 -- the code's layout is the mode's
 module _ (m : ℕ) (h : m < 16) (bs : List ℕ) (l : Layout) (is : l ≡ layoutOf m) where
-  pub unpacks-says : (room : ℕ) → unpackChecks l (length bs) room ≡ unpackSays m (length bs) room
-  unpacks-says room = rw is (sym (unpack-by-layout m (length bs) room h))
+  pub unpacks-says : (space : ℕ) → unpackChecks l (length bs) space ≡ unpackSays m (length bs) space
+  unpacks-says space = rw is (sym (unpack-by-layout m (length bs) space h))
 
   pub unpacks-size : colorCount (l .four) (l .size) (length bs) * 4 ≡ length (unpacked m bs)
   unpacks-size = rw is (sym (length-unpacked m bs))

@@ -4,7 +4,7 @@ use Prim.Native.Nat.{ℕ, zero, suc, _+_, _*_, _-_, _/_, _^_}
 use mathlib.Core.Bool.{cond}
 use mathlib.Core.List.{[], _∷_}
 use lib.Dec.{ltb, leb, eqb}
-use Rattle.words.specs.Answers.{_when_, lowest}
+use Rattle.words.specs.Answers.{_when_, firstApplying}
 use Rattle.mode.specs.Table.{row}
 use Rattle.color.specs.declared.Rounding.{Rounding}
 use Rattle.color.specs.declared.Rounding.the-variants.{Truncate, Nearest}
@@ -32,7 +32,7 @@ abbrev pub copies : ℕ → ℕ → ℕ
 copies bits x = x + x / 2 ^ bits + x / 2 ^ (bits + bits) + x / 2 ^ (bits + bits + bits)
 
 abbrev pub modeSays : ℕ → ℕ
-modeSays m = lowest (1 when ltb 15 m ∷ [])
+modeSays m = firstApplying (1 when ltb 15 m ∷ [])
 
 abbrev pub scaleSays : ℕ → ℕ → ℕ
-scaleSays m v = lowest (1 when ltb 15 m ∷ 9 when ltb (row m .top) v ∷ [])
+scaleSays m v = firstApplying (1 when ltb 15 m ∷ 9 when ltb (row m .top) v ∷ [])

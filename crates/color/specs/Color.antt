@@ -6,7 +6,7 @@ use mathlib.Core.Bool.{Bool, true, false, not, cond, _||_}
 use mathlib.Core.List.{List, [], _∷_}
 use lib.Dec.{ltb, eqb}
 use lib.ListN.{length, getD, take, drop}
-use Rattle.words.specs.Answers.{_when_, lowest}
+use Rattle.words.specs.Answers.{_when_, firstApplying}
 use Rattle.words.specs.Bytes.{bytesOf, wordOf}
 use Rattle.words.specs.Fields.{Field, field, unused, join, split}
 use Rattle.words.specs.Loops.{each, some}
@@ -112,12 +112,12 @@ abbrev pub packedSize : Bool → ℕ → ℕ → ℕ
 packedSize four size len = cond four size (len / 4 * size)
 
 unfoldable pub packSays : ℕ → List ℕ → ℕ → ℕ
-packSays m cs room =
-    lowest
+packSays m cs space =
+    firstApplying
     (1 when ltb 15 m
     ∷ 7 when not (packable (coloring m .four) (length cs))
     ∷ 9 when some (length cs / 4) (above (row m .top) cs)
-    ∷ 11 when ltb room (packedSize (coloring m .four) (coloring m .size) (length cs))
+    ∷ 11 when ltb space (packedSize (coloring m .four) (coloring m .size) (length cs))
     ∷ [])
 
 -- ---- unpacking
@@ -155,11 +155,11 @@ abbrev pub colorCount : Bool → ℕ → ℕ → ℕ
 colorCount four size len = cond four 4 (len / size)
 
 unfoldable pub unpackSays : ℕ → ℕ → ℕ → ℕ
-unpackSays m len room =
-    lowest
+unpackSays m len space =
+    firstApplying
     (1 when ltb 15 m
     ∷ 7 when not (unpackable m len)
-    ∷ 11 when ltb room (4 * colorCount (coloring m .four) (coloring m .size) len)
+    ∷ 11 when ltb space (4 * colorCount (coloring m .four) (coloring m .size) len)
     ∷ [])
 
 -- ---- both ways

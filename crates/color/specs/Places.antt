@@ -6,7 +6,7 @@ use mathlib.Core.Bool.{Bool, false, not, cond}
 use mathlib.Core.List.{List, [], _∷_, _++_}
 use lib.Dec.{ltb, eqb}
 use lib.ListN.{length, getD, take, drop}
-use Rattle.words.specs.Answers.{_when_, lowest}
+use Rattle.words.specs.Answers.{_when_, firstApplying}
 use Rattle.words.specs.Bytes.{bytesOf, wordOf}
 use Rattle.words.specs.Loops.{some}
 use Rattle.mode.specs.Table.{row}
@@ -89,11 +89,11 @@ colorBytes l cs i = bytesOf (l .size) (l .most) (colorWord l cs i)
 
 -- The checks of packing that go by the layout.
 unfoldable pub packChecks : Layout → List ℕ → ℕ → ℕ
-packChecks l cs room =
-    lowest
+packChecks l cs space =
+    firstApplying
     (7 when not (packable (l .four) (length cs))
     ∷ 9 when some (length cs / 4) (above (l .top) cs)
-    ∷ 11 when ltb room (packedSize (l .four) (l .size) (length cs))
+    ∷ 11 when ltb space (packedSize (l .four) (l .size) (length cs))
     ∷ [])
 
 -- Colour i is there, and no component of it is above the top.
@@ -131,4 +131,4 @@ abbrev pub readable : Layout → ℕ → Bool
 readable l len = cond (l .four) (eqb len (l .size)) (cond (l .gray) (eqb len 4) (eqb (len % l .size) 0))
 
 unfoldable pub unpackChecks : Layout → ℕ → ℕ → ℕ
-unpackChecks l len room = lowest (7 when not (readable l len) ∷ 11 when ltb room (4 * colorCount (l .four) (l .size) len) ∷ [])
+unpackChecks l len space = firstApplying (7 when not (readable l len) ∷ 11 when ltb space (4 * colorCount (l .four) (l .size) len) ∷ [])

@@ -178,9 +178,9 @@ fn packed_size(l: Layout, len: usize) -> usize
     len / 4 * l.size
 }
 
-fn pack_says(l: Layout, colors: &[u8], room: usize) -> u32
+fn pack_says(l: Layout, colors: &[u8], space: usize) -> u32
     requires { ⌜ Sound l ⌝ }
-    ensures { λ r. ⌜ r ≡ packChecks l (now (colors .entry)) room ⌝ }
+    ensures { λ r. ⌜ r ≡ packChecks l (now (colors .entry)) space ⌝ }
 {
     if !can_pack(l.four, colors.len()) {
         return 7;
@@ -188,7 +188,7 @@ fn pack_says(l: Layout, colors: &[u8], room: usize) -> u32
     if some_above(l.top, colors, colors.len() / 4) {
         return 9;
     }
-    if room < packed_size(l, colors.len()) {
+    if space < packed_size(l, colors.len()) {
         return 11;
     }
     0
@@ -318,14 +318,14 @@ fn color_count(l: Layout, len: usize) -> usize
 }
 
 // 11 is tested by division, so that nothing overflows.
-fn unpack_says(l: Layout, len: usize, room: usize) -> u32
+fn unpack_says(l: Layout, len: usize, space: usize) -> u32
     requires { ⌜ Sound l ⌝ }
-    ensures { λ r. ⌜ r ≡ unpackChecks l len room ⌝ }
+    ensures { λ r. ⌜ r ≡ unpackChecks l len space ⌝ }
 {
     if !can_unpack(l, len) {
         return 7;
     }
-    if room / 4 < color_count(l, len) {
+    if space / 4 < color_count(l, len) {
         return 11;
     }
     0

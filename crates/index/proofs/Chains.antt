@@ -16,13 +16,13 @@ use Rattle.flip.specs.declared.Match.{Match}
 use Rattle.flip.specs.declared.Match.the-variants.{Under, Never}
 use Rattle.flip.proofs.Equivalence.{matches-trans, not-both}
 use Rattle.tileset.specs.Finding.{foundOr, findIn, tilesFrom, tilesIn, lookUp, isFound}
-use Rattle.tileset.specs.History.{matchesSome}
+use Rattle.tileset.specs.Matched.{matchesSome}
 use Rattle.tileset.specs.declared.Found.{Found}
 use Rattle.tileset.specs.declared.Found.the-variants.{At, Nothing}
 use Rattle.tileset.proofs.Matched.{look-some}
 use Rattle.tileset.proofs.Stores.{length-tiles}
 use Rattle.index.specs.Key.{key}
-use Rattle.index.specs.Index.{bucketOf, Skip, Gap, Indexed, linkOf, Looks, Searches}
+use Rattle.index.specs.Index.{bucketOf, Skip, Gap, Indexed, linkOf, LooksAt, Searches}
 use Rattle.index.proofs.Keys.{matches-key}
 
 -- the answer of the first tiles, and else that of the others
@@ -184,7 +184,7 @@ module _ (on : Bool) (s keys heads next : List ℕ) (count : ℕ) (t : List ℕ)
         is = below-all on t tiles ∙ gap on t tiles l (length tiles) Nothing low (le-refl (length tiles)) free;
       }
 
-  pub search-look : (k : ℕ) → k < count → Looks on s keys t k q
+  pub search-look : (k : ℕ) → k < count → LooksAt on s keys t k q
   search-look k p =
       record {
         place = omega (arith, z .few);

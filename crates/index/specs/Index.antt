@@ -40,7 +40,7 @@ abbrev pub headOf : Found → ℕ → ℕ → ℕ
 headOf found head n = cond (isFound found) head (n + 1)
 
 -- What looking at stored tile k asks, where q is the key of the tile.
-pub record Looks (on : Bool) (store keys tile : List ℕ) (k q : ℕ) : Type 0 where
+pub record LooksAt (on : Bool) (store keys tile : List ℕ) (k q : ℕ) : Type 0 where
   pub place : k < 4096
   pub keyed : getD keys k 0 ≡ key on (take 64 (drop (k * 64) store))
   pub its : q ≡ key on tile

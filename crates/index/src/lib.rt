@@ -12,7 +12,7 @@ ghost use Rattle.flip.specs.Flips.{turned, flipAt, flipped};
 ghost use Rattle.flip.specs.Matching.{matchFlip};
 ghost use Rattle.tileset.specs.Finding.{foundOr, tilesIn, lookUp};
 ghost use Rattle.index.specs.Key.{word, hash, mix, pair, key};
-ghost use Rattle.index.specs.Index.{linkOf, headOf, Looks, Searches, Enters, Entered};
+ghost use Rattle.index.specs.Index.{linkOf, headOf, LooksAt, Searches, Enters, Entered};
 
 fn wide(x: u8) -> u64
     ensures { λ r. ⌜ (r ≡ x) × (r < 256) ⌝ }
@@ -129,7 +129,7 @@ fn match_at(
     tile: &[u8; 64],
     flips: bool,
 ) -> Match
-    requires { ⌜ Looks flips (now store) (now keys) (now tile) k q ⌝ }
+    requires { ⌜ LooksAt flips (now store) (now keys) (now tile) k q ⌝ }
     ensures { λ r. ⌜ r ≡ matchFlip flips 8 8 (take 64 (drop (k * 64) (now (store .entry)))) (now (tile .entry)) ⌝ }
 {
     if keys[k] != q {

@@ -15,7 +15,7 @@ use Rattle.words.proofs.Fields.{join-lt}
 use Rattle.words.proofs.Loops.{all-at}
 use Rattle.mode.specs.Table.{row, gbc, pce-sprite}
 use Rattle.mode.proofs.ByMode.{by-mode}
-use Rattle.mapentry.specs.Entry.{layout, valuesOf, entryWord, misfitOf, misfitSays, entryChecks, entrySays, answered, blank, entered, indexSize, IsEntry, withoutTile}
+use Rattle.mapentry.specs.Entry.{layout, valuesOf, entryWord, misfitOf, misfitSays, entryChecks, entrySays, entryAnswer, blank, entered, indexSize, IsEntry, withoutTile}
 use Rattle.mapentry.specs.declared.Mapentry.{Mapentry}
 use Rattle.mapentry.specs.declared.Misfit.{Misfit}
 use Rattle.mapentry.specs.declared.Misfit.the-variants.{Tile, Palette, Flip, Priority, Nothing}
@@ -208,13 +208,13 @@ pub word-small : (m : ℕ) → m < 16 → (e : Mapentry) → entryWord m e < 655
 word-small m h e = lt-of-lt-of-le (join-lt (layout m) (valuesOf e)) (pow-mono {j = 16} (bits-small m h))
 
 -- a reading is refused, with all else 0, or has the entry's fields
-pub refused-entry : (n : ℕ) {k : ℕ} (e : Mapentry) → suc n ≡ k → answered (suc n) blank ≡ entered k e
+pub refused-entry : (n : ℕ) {k : ℕ} (e : Mapentry) → suc n ≡ k → entryAnswer (suc n) blank ≡ entered k e
 refused-entry n e p = ap (λ (i : ℕ). entered i e) p
 
 pub same-entry : (n : ℕ) (e f : Mapentry) → (n ≡ 0 → e ≡ f) → entered n e ≡ entered n f
-same-entry zero e f h = ap (λ (x : Mapentry). answered 0 x) (h refl)
+same-entry zero e f h = ap (λ (x : Mapentry). entryAnswer 0 x) (h refl)
 same-entry (suc n) e f h = refl
 
-pub done-entry : {k : ℕ} (r e : Mapentry) → k ≡ 0 → r ≡ e → answered 0 r ≡ entered k e
-done-entry {k = zero} r e z p = ap (λ (x : Mapentry). answered 0 x) p
+pub done-entry : {k : ℕ} (r e : Mapentry) → k ≡ 0 → r ≡ e → entryAnswer 0 r ≡ entered k e
+done-entry {k = zero} r e z p = ap (λ (x : Mapentry). entryAnswer 0 x) p
 done-entry {k = suc k} r e z p = absurd (suc-ne-zero k z)

@@ -6,7 +6,7 @@ use mathlib.Core.Bool.{Bool, false, not, cond, _&&_}
 use mathlib.Core.List.{List, [], _∷_}
 use lib.Dec.{ltb, eqb}
 use lib.ListN.{getD}
-use Rattle.words.specs.Answers.{_when_, lowest, unless}
+use Rattle.words.specs.Answers.{_when_, firstApplying, unless}
 use Rattle.words.specs.Bytes.{bit, bytesOf, wordOf}
 use Rattle.words.specs.Fields.{Field, field, unused, join, split}
 use Rattle.mode.specs.Table.{row, gbc, md, pce-sprite}
@@ -102,7 +102,7 @@ abbrev pub entryChecks : ℕ → Mapentry → List ℕ
 entryChecks m e = 1 when ltb 15 m ∷ 2 when eqb m pce-sprite ∷ misfitSays (misfitOf m e) ∷ []
 
 unfoldable pub entrySays : ℕ → Mapentry → ℕ
-entrySays m e = lowest (entryChecks m e)
+entrySays m e = firstApplying (entryChecks m e)
 
 -- An entry that passes them.
 pub record IsEntry (m : ℕ) (e : Mapentry) : Type 0 where
@@ -111,24 +111,24 @@ pub record IsEntry (m : ℕ) (e : Mapentry) : Type 0 where
   pub fits : misfitOf m e ≡ Nothing
 
 unfoldable pub packSays : ℕ → Mapentry → ℕ → ℕ
-packSays m e room = lowest (entrySays m e ∷ 11 when ltb room (row m .entry) ∷ [])
+packSays m e space = firstApplying (entrySays m e ∷ 11 when ltb space (row m .entry) ∷ [])
 
 abbrev pub readChecks : ℕ → ℕ → List ℕ
 readChecks m len = 1 when ltb 15 m ∷ 2 when eqb m pce-sprite ∷ 7 when not (eqb len (row m .entry)) ∷ []
 
 unfoldable pub readSays : ℕ → ℕ → ℕ
-readSays m len = lowest (readChecks m len)
+readSays m len = firstApplying (readChecks m len)
 
 -- What reading answers: "all else returned 0 or nothing" where it is refused.
 abbrev pub blank : Mapentry
 blank = record { tile = 0; palette = 0; «flip_h» = false; «flip_v» = false; priority = false }
 
-abbrev pub answered : ℕ → Mapentry → Entry
-answered n e =
+abbrev pub entryAnswer : ℕ → Mapentry → Entry
+entryAnswer n e =
     record { refusal = n; tile = e .tile; palette = e .palette; «flip_h» = e .«flip_h»; «flip_v» = e .«flip_v»; priority = e .priority }
 
 abbrev pub entered : ℕ → Mapentry → Entry
-entered n e = answered n (unless n e blank)
+entered n e = entryAnswer n (unless n e blank)
 
 -- "`get_tile_index` gives two bytes, low first, where tile bits exceed 8, gbc one."
 abbrev pub indexSize : ℕ → ℕ
@@ -138,7 +138,7 @@ abbrev pub indexBytes : ℕ → Mapentry → List ℕ
 indexBytes m e = bytesOf (indexSize m) false (e .tile)
 
 unfoldable pub indexSays : ℕ → Mapentry → ℕ → ℕ
-indexSays m e room = lowest (entrySays m e ∷ 11 when ltb room (indexSize m) ∷ [])
+indexSays m e space = firstApplying (entrySays m e ∷ 11 when ltb space (indexSize m) ∷ [])
 
 -- "`get_attribute` keeps the non-tile bits of the second byte (md: the first; gbc: tile bit 8 too), 0 where an entry has one byte": what is left
 -- above the low byte of the word, of an entry without its tile index.

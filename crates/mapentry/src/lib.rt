@@ -10,7 +10,7 @@ ghost use lib.Seq.{sets};
 ghost use Rattle.words.specs.Answers.{numbered, Wrote};
 ghost use Rattle.words.specs.Bytes.{bytesOf};
 ghost use Rattle.mode.specs.Table.{row};
-ghost use Rattle.mapentry.specs.Entry.{misfitOf, misfitSays, entrySays, entryWord, entryBytes, packSays, entryIn, entryOf, readSays, entered, answered, blank, IsEntry, mostFirst, withoutTile, indexSize, indexSays, indexBytes, attributeOf};
+ghost use Rattle.mapentry.specs.Entry.{misfitOf, misfitSays, entrySays, entryWord, entryBytes, packSays, entryIn, entryOf, readSays, entered, entryAnswer, blank, IsEntry, mostFirst, withoutTile, indexSize, indexSays, indexBytes, attributeOf};
 ghost use Rattle.mapentry.specs.Places.{at, placesOf, Near, readAt, ReadEntry};
 
 // "An entry is tile index, palette index (32 bits each), flip h, flip v, priority."
@@ -255,7 +255,7 @@ pub fn pack_mapentry(mode: u32, e: Mapentry, out: &mut [u8]) -> Written
 }
 
 fn no_entry(refusal: u32) -> Entry
-    ensures { λ r. ⌜ r ≡ answered refusal blank ⌝ }
+    ensures { λ r. ⌜ r ≡ entryAnswer refusal blank ⌝ }
 {
     Entry {
         refusal,

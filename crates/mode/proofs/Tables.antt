@@ -11,7 +11,7 @@ use borrow.Author.Tests.{eq-eqb, ne-eqb}
 use Rattle.words.specs.Bytes.{same}
 use Rattle.words.proofs.Bytes.{same-eq}
 use Rattle.words.proofs.Loops.{all-at}
-use Rattle.mode.specs.Table.{rows, row, depthAt, three, numbers, numbered, oneOf, hasDepth}
+use Rattle.mode.specs.Table.{rows, row, depthAt, three, numbers, modeOf, oneOf, hasDepth}
 use Rattle.mode.specs.Names.{names, nameOf, namedFrom}
 use Rattle.mode.specs.declared.Named.the-variants.{Console}
 
@@ -80,7 +80,7 @@ name-right m h =
     (all-at 16 (λ k. same (take (getD lengths k 0) (getD padded k [])) (nameOf k)) tt m h)
 
 -- one name more
-pub next-name : (s : List ℕ) (m : ℕ) → m < 16 → namedFrom s m (16 - m) ≡ cond (same s (nameOf m)) (Console (numbered m)) (namedFrom s (m + 1) (16 - (m + 1)))
+pub next-name : (s : List ℕ) (m : ℕ) → m < 16 → namedFrom s m (16 - m) ≡ cond (same s (nameOf m)) (Console (modeOf m)) (namedFrom s (m + 1) (16 - (m + 1)))
 next-name s m h =
     let e : 16 - m ≡ suc (16 - (m + 1)) = omega arith in
     rw e

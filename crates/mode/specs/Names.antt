@@ -5,7 +5,7 @@ use mathlib.Core.Bool.{cond}
 use mathlib.Core.List.{List, [], _∷_}
 use lib.ListN.{getD}
 use Rattle.words.specs.Bytes.{same}
-use Rattle.mode.specs.Table.{numbered}
+use Rattle.mode.specs.Table.{modeOf}
 use Rattle.mode.specs.declared.Named.{Named}
 use Rattle.mode.specs.declared.Named.the-variants.{Console, Nothing}
 
@@ -36,7 +36,7 @@ nameOf m = getD names m []
 -- The first mode from m on, of k, that the bytes name.
 abbrev pub namedFrom : List ℕ → ℕ → ℕ → Named
 namedFrom s m zero = Nothing
-namedFrom s m (suc k) = cond (same s (nameOf m)) (Console (numbered m)) (namedFrom s (m + 1) k)
+namedFrom s m (suc k) = cond (same s (nameOf m)) (Console (modeOf m)) (namedFrom s (m + 1) k)
 
 abbrev pub modeNamed : List ℕ → Named
 modeNamed s = namedFrom s 0 16

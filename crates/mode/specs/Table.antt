@@ -81,9 +81,9 @@ three ds = depthAt 0 ds ∷ depthAt 1 ds ∷ depthAt 2 ds ∷ []
 abbrev pub numbers : Row → List ℕ
 numbers r = three (r .depths) ++ r .top ∷ r .entry ∷ r .tile ∷ r .palette ∷ r .flips ∷ r .priority ∷ []
 
-abbrev pub numbered : ℕ → Mode
-numbered m = record { 0 = m }
+abbrev pub modeOf : ℕ → Mode
+modeOf m = record { 0 = m }
 
 -- "Modes are numbered 0 to 15 in this order."
 abbrev pub consoles : List Mode
-consoles = map numbered (0 ∷ 1 ∷ 2 ∷ 3 ∷ 4 ∷ 5 ∷ 6 ∷ 7 ∷ 8 ∷ 9 ∷ 10 ∷ 11 ∷ 12 ∷ 13 ∷ 14 ∷ 15 ∷ [])
+consoles = map modeOf (0 ∷ 1 ∷ 2 ∷ 3 ∷ 4 ∷ 5 ∷ 6 ∷ 7 ∷ 8 ∷ 9 ∷ 10 ∷ 11 ∷ 12 ∷ 13 ∷ 14 ∷ 15 ∷ [])

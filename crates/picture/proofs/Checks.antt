@@ -10,9 +10,9 @@ use lib.Dec.{T, leb, ltb, eqb, ltb→lt, leb→le}
 use lib.ListN.{length, getD}
 use lib.Pow.{pow-mono}
 use borrow.Author.Tests.{lt-ltb, le-ltb, ltb-false, eq-eqb, ne-eqb, eqb-true, eqb-false, not-false}
-use Rattle.words.specs.Answers.{_when_, lowest, unless}
+use Rattle.words.specs.Answers.{_when_, firstApplying, unless}
 use Rattle.words.proofs.Answers.{all-passed, not-given, first-given, last-given, when-done, when-refused}
-use Rattle.words.proofs.Loops.{both-left, both-right}
+use Rattle.words.proofs.Loops.{either, both-left, both-right}
 use Rattle.mode.specs.Table.{row, oneOf, hasDepth, pce-sprite}
 use Rattle.mapentry.specs.Entry.{misfitOf, misfitSays}
 use Rattle.mapentry.specs.declared.Misfit.{Misfit}
@@ -24,8 +24,8 @@ use Rattle.tileset.specs.Sets.{sides, setSays}
 use Rattle.tileset.proofs.Says.{next-given}
 use Rattle.tileset.proofs.Sizes.{IsSet, set-of, bits-some}
 use Rattle.tileset.proofs.Writing.{native-cell}
-use Rattle.picture.specs.Keeping.{entryAs}
-use Rattle.picture.specs.Converting.{askedChecks, places, isSpan, sizeChecks, sizeSays, roomOf, needOf, convertSays}
+use Rattle.picture.specs.Entries.{entryAs}
+use Rattle.picture.specs.Converting.{askedChecks, places, isSpan, sizeChecks, sizeSays, pictureRoom, needOf, convertSays}
 use Rattle.picture.specs.Inner.{askedSays, IsPicture}
 use Rattle.picture.specs.declared.Settings.{Settings}
 
@@ -144,15 +144,15 @@ module _ (z : Settings) (len room : ℕ) where
   module _ (s : size ≡ 0) where
     pub asked-5 : lacks ≡ true → 5 ≡ askedSays z len room
     unfolding askedSays
-    asked-5 e = sym (next-given from-5 s ∙ ap (λ (b : Bool). lowest (5 when b ∷ from-7)) e)
+    asked-5 e = sym (next-given from-5 s ∙ ap (λ (b : Bool). firstApplying (5 when b ∷ from-7)) e)
 
     module _ (f : lacks ≡ false) where
       pub asked-7 : (len ≡ 64 * places z → ⊥) → 7 ≡ askedSays z len room
       unfolding askedSays
-      asked-7 e = sym (next-given from-5 s ∙ next-given from-7 (not-5 f) ∙ ap (λ (b : Bool). lowest (7 when not b ∷ misfit ∷ from-11)) (ne-eqb len (64 * places z) e))
+      asked-7 e = sym (next-given from-5 s ∙ next-given from-7 (not-5 f) ∙ ap (λ (b : Bool). firstApplying (7 when not b ∷ misfit ∷ from-11)) (ne-eqb len (64 * places z) e))
 
       module _ (l : len ≡ 64 * places z) where
-        to-misfit : askedSays z len room ≡ lowest (misfit ∷ from-11)
+        to-misfit : askedSays z len room ≡ firstApplying (misfit ∷ from-11)
         unfolding askedSays
         to-misfit = next-given from-5 s ∙ next-given from-7 (not-5 f) ∙ next-given (misfit ∷ from-11) (not-7 l)
 
@@ -161,10 +161,10 @@ module _ (z : Settings) (len room : ℕ) where
 
         module _ (p : misfit ≡ 0) where
           pub asked-11 : room < places z * row (z .mode) .entry → 11 ≡ askedSays z len room
-          asked-11 h = sym (to-misfit ∙ next-given from-11 p ∙ ap (λ (b : Bool). lowest (11 when b ∷ [])) (lt-ltb room (places z * row (z .mode) .entry) h))
+          asked-11 h = sym (to-misfit ∙ next-given from-11 p ∙ ap (λ (b : Bool). firstApplying (11 when b ∷ [])) (lt-ltb room (places z * row (z .mode) .entry) h))
 
           pub asked-0 : places z * row (z .mode) .entry ≤ room → 0 ≡ askedSays z len room
-          asked-0 h = sym (to-misfit ∙ next-given from-11 p ∙ ap (λ (b : Bool). lowest (11 when b ∷ [])) (le-ltb room (places z * row (z .mode) .entry) h))
+          asked-0 h = sym (to-misfit ∙ next-given from-11 p ∙ ap (λ (b : Bool). firstApplying (11 when b ∷ [])) (le-ltb room (places z * row (z .mode) .entry) h))
 
   -- ---- nothing was refused
 
@@ -200,31 +200,26 @@ module _ (z : Settings) (len room : ℕ) where
 
 -- ---- room
 
--- what holds of both holds of either
-pub either : {A : Type 0} (P : A → Type 0) (b : Bool) (x y : A) → P x → P y → P (cond b x y)
-either P true x y p q = p
-either P false x y p q = q
-
 module _ (z : Settings) (len : ℕ) where
-  pub room-named : roomOf z len ≤ 2 ^ row (z .mode) .tile
-  unfolding roomOf
+  pub room-named : pictureRoom z len ≤ 2 ^ row (z .mode) .tile
+  unfolding pictureRoom
   room-named = either (λ (n : ℕ). n ≤ 2 ^ row (z .mode) .tile) (eqb (z .limit) 0) _ _ (omega arith) (omega arith)
 
-  pub room-most : z .mode < 16 → roomOf z len ≤ 4096
+  pub room-most : z .mode < 16 → pictureRoom z len ≤ 4096
   room-most m = le-trans room-named (pow-mono {i = row (z .mode) .tile} {j = 12} (small (z .mode) m .tile))
 
-  room-whole : roomOf z len ≤ len / (z .depth * 8)
-  unfolding roomOf
+  room-whole : pictureRoom z len ≤ len / (z .depth * 8)
+  unfolding pictureRoom
   room-whole = either (λ (n : ℕ). n ≤ len / (z .depth * 8)) (eqb (z .limit) 0) _ _ (omega arith) (omega arith)
 
   -- so many tiles fit the buffer
-  pub room-bytes : 0 < z .depth → {n : ℕ} → n ≤ roomOf z len → n * (z .depth * 8) ≤ len
+  pub room-bytes : 0 < z .depth → {n : ℕ} → n ≤ pictureRoom z len → n * (z .depth * 8) ≤ len
   room-bytes d {n} h = le-div-iff-mul-le {k = z .depth * 8} (omega arith) .0 (le-trans h room-whole)
 
 -- ---- every check
 
 -- one check after others
-then : (ns : List ℕ) (n : ℕ) → lowest (ns ++ n ∷ []) ≡ unless (lowest ns) n (lowest ns)
+then : (ns : List ℕ) (n : ℕ) → firstApplying (ns ++ n ∷ []) ≡ unless (firstApplying ns) n (firstApplying ns)
 then [] n = sym (last-given n)
 then (zero ∷ ns) n = then ns n
 then (suc k ∷ ns) n = refl
@@ -238,7 +233,7 @@ module _ (z : Settings) (pixels : List ℕ) (tileRoom mapRoom : ℕ) where
   asked = askedSays z (length pixels) mapRoom
 
   abbrev full : Bool
-  full = ltb (roomOf z tileRoom) (needOf z pixels)
+  full = ltb (pictureRoom z tileRoom) (needOf z pixels)
 
   -- the room alone decides where no check before it gives a number
   pub convert-is : convertSays z pixels tileRoom mapRoom ≡ unless asked (12 when full) asked
@@ -252,13 +247,13 @@ module _ (z : Settings) (pixels : List ℕ) (tileRoom mapRoom : ℕ) where
     to-room : convertSays z pixels tileRoom mapRoom ≡ 12 when full
     to-room = convert-is ∙ when-done asked (12 when full) asked a
 
-    pub convert-12 : roomOf z tileRoom < needOf z pixels → 12 ≡ convertSays z pixels tileRoom mapRoom
-    convert-12 h = sym (to-room ∙ ap (λ (b : Bool). 12 when b) (lt-ltb (roomOf z tileRoom) (needOf z pixels) h))
+    pub convert-12 : pictureRoom z tileRoom < needOf z pixels → 12 ≡ convertSays z pixels tileRoom mapRoom
+    convert-12 h = sym (to-room ∙ ap (λ (b : Bool). 12 when b) (lt-ltb (pictureRoom z tileRoom) (needOf z pixels) h))
 
-    pub convert-0 : needOf z pixels ≤ roomOf z tileRoom → convertSays z pixels tileRoom mapRoom ≡ 0
-    convert-0 h = to-room ∙ ap (λ (b : Bool). 12 when b) (le-ltb (roomOf z tileRoom) (needOf z pixels) h)
+    pub convert-0 : needOf z pixels ≤ pictureRoom z tileRoom → convertSays z pixels tileRoom mapRoom ≡ 0
+    convert-0 h = to-room ∙ ap (λ (b : Bool). 12 when b) (le-ltb (pictureRoom z tileRoom) (needOf z pixels) h)
 
-  pub convert-passed : convertSays z pixels tileRoom mapRoom ≡ 0 → (asked ≡ 0) × (needOf z pixels ≤ roomOf z tileRoom)
+  pub convert-passed : convertSays z pixels tileRoom mapRoom ≡ 0 → (asked ≡ 0) × (needOf z pixels ≤ pictureRoom z tileRoom)
   convert-passed e =
       let passed = both-pass asked full (sym convert-is ∙ e) in
-      (passed .0, ltb-false (roomOf z tileRoom) (needOf z pixels) (passed .1))
+      (passed .0, ltb-false (pictureRoom z tileRoom) (needOf z pixels) (passed .1))

@@ -26,11 +26,13 @@ use Rattle.tileset.specs.declared.Found.{Found}
 use Rattle.tileset.specs.declared.Found.the-variants.{At, Nothing}
 use Rattle.tileset.proofs.Writing.{packed-length}
 use Rattle.picture.specs.Cells.{cutTile, cutTiles}
-use Rattle.picture.specs.Keeping.{kept, entryFor}
-use Rattle.picture.specs.Converting.{places, tilesOf, storedOf, needOf, droppedOf, tileBytes, foundAt, mapBytes}
+use Rattle.tileset.specs.Keeping.{kept}
+use Rattle.picture.specs.Entries.{entryFor}
+use Rattle.picture.specs.Converting.{places, pictureTiles, storedOf, needOf, discardedOf, tileBytes, foundAt, mapBytes}
 use Rattle.picture.specs.Inner.{IsPicture}
 use Rattle.picture.specs.declared.Settings.{Settings}
-use Rattle.picture.proofs.Kept.{cutTiles-at, look-told, found-here, found-final, kept-need, need-dropped, length-cutTiles}
+use Rattle.tileset.proofs.Keeping.{look-told, kept-need, need-discarded}
+use Rattle.picture.proofs.Kept.{cutTiles-at, found-here, found-final, length-cutTiles}
 use Rattle.picture.proofs.Checks.{native-tile}
 
 pub bit-small : (b : Bool) → bit b ≤ 1
@@ -54,19 +56,19 @@ entry-size m e = length-bytes (row m .entry) (mostFirst m) (entryWord m e)
 module _ (z : Settings) (pixels : List ℕ) where
   -- ---- the tiles
 
-  pub length-tiles : length (tilesOf z pixels) ≡ places z
-  unfolding tilesOf
+  pub length-tiles : length (pictureTiles z pixels) ≡ places z
+  unfolding pictureTiles
   length-tiles = length-cutTiles (z .depth) 8 8 (z .columns) pixels (places z)
 
-  pub tile-is : (i : ℕ) → i < places z → getD (tilesOf z pixels) i [] ≡ cutTile (z .depth) 8 8 (z .columns) pixels i
-  unfolding tilesOf
+  pub tile-is : (i : ℕ) → i < places z → getD (pictureTiles z pixels) i [] ≡ cutTile (z .depth) 8 8 (z .columns) pixels i
+  unfolding pictureTiles
   tile-is i lt = cutTiles-at (z .depth) 8 8 (z .columns) pixels (places z) i lt
 
   -- a tile is found where it was found right after it was taken
   pub found-taken : (i : ℕ) → i < places z
       → foundAt z pixels i
       ≡ lookUp (z .flip) 8 8 (kept (z .discard) (z .flip) 8 8 (cutTiles (z .depth) 8 8 (z .columns) pixels (suc i))) (cutTile (z .depth) 8 8 (z .columns) pixels i)
-  unfolding foundAt storedOf tilesOf
+  unfolding foundAt storedOf pictureTiles
   found-taken i lt =
       ap (lookUp (z .flip) 8 8 (storedOf z pixels)) (tile-is i lt)
       ∙ found-final (z .discard) (z .flip) (z .depth) 8 8 (z .columns) pixels (omega arith) (places z) i lt
@@ -78,12 +80,12 @@ module _ (z : Settings) (pixels : List ℕ) where
 
   pub stored-need : length (storedOf z pixels) ≡ needOf z pixels
   unfolding storedOf needOf
-  stored-need = kept-need (z .flip) 8 8 (omega arith) (z .discard) (tilesOf z pixels)
+  stored-need = kept-need (z .flip) 8 8 (omega arith) (z .discard) (pictureTiles z pixels)
 
-  pub stored-dropped : length (storedOf z pixels) + droppedOf z pixels ≡ places z
-  unfolding needOf droppedOf
-  stored-dropped =
-      ap (λ (n : ℕ). n + droppedOf z pixels) stored-need ∙ need-dropped (z .flip) 8 8 (z .discard) (tilesOf z pixels) ∙ length-tiles
+  pub stored-discarded : length (storedOf z pixels) + discardedOf z pixels ≡ places z
+  unfolding needOf discardedOf
+  stored-discarded =
+      ap (λ (n : ℕ). n + discardedOf z pixels) stored-need ∙ need-discarded (z .flip) 8 8 (z .discard) (pictureTiles z pixels) ∙ length-tiles
 
   -- ---- entries
 
@@ -91,7 +93,7 @@ module _ (z : Settings) (pixels : List ℕ) where
     fits-case : (i : ℕ) (r : Found) → foundAt z pixels i ≡ r → Fitting (z .mode) (entryFor (z .palette) r)
     unfolding foundAt
     fits-case i (At k f) e =
-        let told = look-told (z .flip) 8 8 (getD (tilesOf z pixels) i []) (storedOf z pixels) e in
+        let told = look-told (z .flip) 8 8 (getD (pictureTiles z pixels) i []) (storedOf z pixels) e in
         let flips = flip-fits (z .flip) (row (z .mode) .flips) f (s .flips) (told .1 .0) in
         record {
           tile = lt-of-lt-of-le (told .0) room;

@@ -24,7 +24,7 @@ use Rattle.mapentry.specs.Entry.{entryOf}
 use Rattle.mapentry.specs.declared.Mapentry.{Mapentry}
 use Rattle.picture.specs.Cells.{tileOver, placeOver}
 use Rattle.picture.specs.Redrawing.{entryAt, drawnTile, drawn}
-use Rattle.picture.specs.Inner.{stripOf, lineOf, DrawsStrip, Draws}
+use Rattle.picture.specs.Inner.{stripOf, pixelLine, DrawsStrip, Draws}
 use Rattle.picture.proofs.Cells.{length-ones}
 
 -- ---- the loop that puts items of k numbers one after the other, from place at on
@@ -123,7 +123,7 @@ entry-read m i size map e q = e ∙ ap (λ (n : ℕ). entryOf m (take (row m .en
 
 -- ---- lines
 
-pub line-length : (strip : List ℕ) (columns y : ℕ) → length (lineOf strip columns y) ≡ columns * 8
+pub line-length : (strip : List ℕ) (columns y : ℕ) → length (pixelLine strip columns y) ≡ columns * 8
 line-length strip columns y =
     length-each columns 8 (λ x. each 8 (λ j. getD strip (x * 64 + y * 8 + j) 0 ∷ [])) (λ x. length-ones 8 (λ j. getD strip (x * 64 + y * 8 + j) 0))
 
@@ -133,10 +133,10 @@ module _ (m d columns : ℕ) (tiles map : List ℕ) where
   pixel o = getD (drawnTile m d tiles (entryAt m map (tileOver 8 8 columns o))) (placeOver 8 8 columns o) 0 ∷ []
 
   -- the pixels of row y of tiles
-  abbrev pub rowOf : ℕ → List ℕ
-  rowOf y = each 8 (λ l. each columns (λ x. each 8 (λ j. pixel (((y * 8 + l) * columns + x) * 8 + j))))
+  abbrev pub rowDrawn : ℕ → List ℕ
+  rowDrawn y = each 8 (λ l. each columns (λ x. each 8 (λ j. pixel (((y * 8 + l) * columns + x) * 8 + j))))
 
-  pub row-length : (y : ℕ) → length (rowOf y) ≡ 8 * (columns * 8)
+  pub row-length : (y : ℕ) → length (rowDrawn y) ≡ 8 * (columns * 8)
   row-length y =
       length-each 8 (columns * 8) (λ l. each columns (λ x. each 8 (λ j. pixel (((y * 8 + l) * columns + x) * 8 + j))))
       (λ l. length-each columns 8 (λ x. each 8 (λ j. pixel (((y * 8 + l) * columns + x) * 8 + j))) (λ x. length-each 8 1 (λ j. pixel (((y * 8 + l) * columns + x) * 8 + j)) (λ j. refl)))
@@ -192,9 +192,9 @@ module _ (m d columns : ℕ) (tiles map : List ℕ) where
         ∙ List·getD-append s (drop (length s) buffer) 0 (x * 64 + p) (omega (arith, long, item-inside 64 columns x hx))
         ∙ item-getD 64 (λ x. drawnTile m d tiles (entryAt m map (y * columns + x))) (λ x. drawn-length m d tiles (entryAt m map (y * columns + x))) columns x hx p hp
 
-    pub lines-are : each 8 (lineOf strip columns) ≡ rowOf y
+    pub lines-are : each 8 (pixelLine strip columns) ≡ rowDrawn y
     lines-are =
-        each-eq 8 (lineOf strip columns) (λ l. each columns (λ x. each 8 (λ j. pixel (((y * 8 + l) * columns + x) * 8 + j))))
+        each-eq 8 (pixelLine strip columns) (λ l. each columns (λ x. each 8 (λ j. pixel (((y * 8 + l) * columns + x) * 8 + j))))
         (λ l hl. each-eq columns (λ x. each 8 (λ j. getD strip (x * 64 + l * 8 + j) 0 ∷ [])) (λ x. each 8 (λ j. pixel (((y * 8 + l) * columns + x) * 8 + j)))
         (λ x hx. each-eq 8 (λ j. getD strip (x * 64 + l * 8 + j) 0 ∷ []) (λ j. pixel (((y * 8 + l) * columns + x) * 8 + j))
         (λ j hj.
@@ -205,7 +205,7 @@ module _ (m d columns : ℕ) (tiles map : List ℕ) where
 
   -- ---- the picture
 
-  pub rows-are : (rows : ℕ) → each rows rowOf ≡ drawn m d columns rows tiles map
+  pub rows-are : (rows : ℕ) → each rows rowDrawn ≡ drawn m d columns rows tiles map
   unfolding drawn
   rows-are rows =
       let eight : ℕ → List ℕ = λ t. each 8 (λ j. pixel (t * 8 + j)) in

@@ -14,8 +14,8 @@ use Rattle.flip.specs.Flips.{flipAt, flipped}
 use Rattle.flip.specs.Matching.{matchFlip}
 use Rattle.tileset.specs.Finding.{cutTo, lookUp}
 use Rattle.picture.specs.Cells.{pixelAt, cutTile, cutTiles}
-use Rattle.picture.specs.Keeping.{keep, kept, need, dropped}
-use Rattle.picture.specs.Converting.{tilesOf, storedOf, needOf, droppedOf, tileBytes, foundAt, mapBytes, roomOf, sizeSays, convertSays, answerOf}
+use Rattle.tileset.specs.Keeping.{keep, kept, need, discarded}
+use Rattle.picture.specs.Converting.{pictureTiles, storedOf, needOf, discardedOf, tileBytes, foundAt, mapBytes, pictureRoom, sizeSays, convertSays, answerOf}
 use Rattle.picture.specs.declared.Settings.{Settings}
 
 -- "With limit and palette 0, left tile 1 at its top left, right tile 1 at its top right, else 0"
@@ -28,15 +28,15 @@ examplePixels = set (set (replicate 128 0) 0 1) 15 1
 -- "tiles=1", "discarded=1", "tilebytes=16", "mapbytes=4": "the tile buffer has 65,536 bytes", and the map four
 pub example-answer : answerOf (convertSays example examplePixels 65536 4) example examplePixels
     ≡ record { refusal = 0; tiles = 1; discarded = 1; «tile_bytes» = 16; «map_bytes» = 4 }
-unfolding row layout fromBits table spread packingOf flipAt flipped matchFlip cutTo lookUp pixelAt cutTile cutTiles keep kept need dropped tilesOf storedOf needOf droppedOf tileBytes foundAt mapBytes roomOf sizeSays convertSays
+unfolding row layout fromBits table spread packingOf flipAt flipped matchFlip cutTo lookUp pixelAt cutTile cutTiles keep kept need discarded pictureTiles storedOf needOf discardedOf tileBytes foundAt mapBytes pictureRoom sizeSays convertSays
 example-answer = refl
 
 -- "80 00, fourteen 00"
 pub example-tiles : tileBytes example examplePixels ≡ 128 ∷ replicate 15 0
-unfolding row layout fromBits table spread packingOf flipAt flipped matchFlip cutTo lookUp pixelAt cutTile cutTiles keep kept tilesOf storedOf tileBytes
+unfolding row layout fromBits table spread packingOf flipAt flipped matchFlip cutTo lookUp pixelAt cutTile cutTiles keep kept pictureTiles storedOf tileBytes
 example-tiles = refl
 
 -- "then 00 00 00 40"
 pub example-map : mapBytes example examplePixels ≡ 0 ∷ 0 ∷ 0 ∷ 64 ∷ []
-unfolding row layout fromBits table spread packingOf flipAt flipped matchFlip cutTo lookUp pixelAt cutTile cutTiles keep kept tilesOf storedOf foundAt mapBytes
+unfolding row layout fromBits table spread packingOf flipAt flipped matchFlip cutTo lookUp pixelAt cutTile cutTiles keep kept pictureTiles storedOf foundAt mapBytes
 example-map = refl

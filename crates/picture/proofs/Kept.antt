@@ -1,34 +1,21 @@
--- What a picture keeps of its tiles: each is found among them where it was found when it was taken, and they are as many as it needs.
+-- The tiles of a picture, and what is kept of them as they are taken one after the other.
 -- Assumes nothing.
 use mathlib.Core.Path.{_≡_, refl, sym, ap, _∙_, subst}
-use mathlib.Core.Bool.{Bool, true, false, not, cond, _&&_}
+use mathlib.Core.Bool.{Bool}
 use mathlib.Core.List.{List, [], _∷_, _++_}
 use mathlib.Core.Logic.{⊎-elim}
-use Prim.Native.Nat.{ℕ, zero, suc, _+_, _*_, _^_, _<_, _≤_}
-use native.Mathlib.Nat.{eq-or-lt-of-le, le-of-suc-le-suc, not-suc-le-zero, mod-lt, add-zero, add-suc, suc-add, zero-add}
+use Prim.Native.Nat.{ℕ, zero, suc, _*_, _^_, _<_, _≤_}
+use native.Mathlib.Nat.{eq-or-lt-of-le, le-of-suc-le-suc, not-suc-le-zero, mod-lt}
 use native.Mathlib.Omega.{arith}
 use lib.ListN.{length, getD, length-append, List·getD-append}
 use lib.Pow.{pow-pos}
 use lib.Seq.{getD-append-seam}
-use Rattle.words.specs.Bytes.{bit}
 use Rattle.words.specs.Loops.{each}
-use Rattle.flip.specs.Flips.{flip, flipped}
-use Rattle.flip.specs.Matching.{matchFlip}
-use Rattle.flip.specs.declared.Flip.{Flip}
-use Rattle.flip.specs.declared.Match.{Match}
-use Rattle.flip.specs.declared.Match.the-variants.{Under, Never}
-use Rattle.flip.proofs.Group.{flipped-none}
-use Rattle.flip.proofs.Rows.{eq-same}
-use Rattle.flip.proofs.Equivalence.{Takes, Told, match-told, not-both}
-use Rattle.tileset.specs.Finding.{foundOr, findIn, lookUp, isFound}
-use Rattle.tileset.specs.History.{matchesSome, Apart}
-use Rattle.tileset.specs.declared.Found.{Found}
-use Rattle.tileset.specs.declared.Found.the-variants.{At, Nothing}
-use Rattle.tileset.proofs.Matched.{look-some, Alike, alike-kept, alike-gone, apart-none, apart-more}
+use Rattle.tileset.specs.Finding.{lookUp, isFound}
+use Rattle.tileset.specs.Keeping.{keep, kept}
+use Rattle.tileset.proofs.Keeping.{kept-next, found-more, keep-self, keep-grows, Every, kept-every}
 use Rattle.tileset.proofs.Stores.{length-cut, cut-at}
 use Rattle.picture.specs.Cells.{pixelAt, cutTile, cutTiles}
-use Rattle.picture.specs.Keeping.{keep, keepAll, kept, fresh, again, need, dropped}
-use Rattle.picture.proofs.Checks.{either}
 use Rattle.picture.proofs.Cells.{length-ones}
 
 -- ---- the tiles of a picture
@@ -65,121 +52,6 @@ module _ (d w h columns : ℕ) (pixels : List ℕ) where
       (λ (q : i ≡ n). ap (λ (k : ℕ). getD (tiles n ++ tile n ∷ []) k []) (q ∙ sym (length-cutTiles n)) ∙ getD-append-seam (tiles n) (tile n) [] [] ∙ ap tile (sym q))
       (λ (l : i < n). List·getD-append (tiles n) (tile n ∷ []) [] i (omega (arith, length-cutTiles n)) ∙ cutTiles-at n i l)
       (eq-or-lt-of-le (le-of-suc-le-suc lt))
-
--- ---- a look-up among some tiles
-
-not-at : {P : Type 0} {k : ℕ} {f : Flip} → At k f ≡ Nothing → P
-not-at e = not-both (sym (ap isFound e))
-
-module _ (on : Bool) (w h : ℕ) (t : List ℕ) where
-  or-more : (m : Match) (k : ℕ) (r s : Found) → (isFound r ≡ true → s ≡ r) → isFound (foundOr m k r) ≡ true → foundOr m k s ≡ foundOr m k r
-  or-more (Under f) k r s e p = refl
-  or-more Never k r s e p = e p
-
-  find-more : (k : ℕ) (xs ys : List (List ℕ)) → isFound (findIn on w h t k xs) ≡ true → findIn on w h t k (xs ++ ys) ≡ findIn on w h t k xs
-  find-more k [] ys p = not-both p
-  find-more k (a ∷ xs) ys p =
-      or-more (matchFlip on w h a t) k (findIn on w h t (suc k) xs) (findIn on w h t (suc k) (xs ++ ys)) (find-more (suc k) xs ys) p
-
-  -- what is found is found again among more tiles
-  pub look-more : (xs ys : List (List ℕ)) → isFound (lookUp on w h xs t) ≡ true → lookUp on w h (xs ++ ys) t ≡ lookUp on w h xs t
-  unfolding lookUp
-  look-more xs ys p = find-more 0 xs ys p
-
-  module _ (z : 0 < w) (len : length t ≡ w * h) where
-    pub match-self : matchFlip on w h t t ≡ Under (flip false false)
-    unfolding matchFlip
-    match-self = simp (eq-same (flipped (flip false false) w h t) t (flipped-none w h t z len))
-
-    or-last : (m : Match) (k : ℕ) (r s : Found) (last : Found) → foundOr m k r ≡ Nothing → (r ≡ Nothing → s ≡ last) → foundOr m k s ≡ last
-    or-last (Under f) k r s last e next = not-at e
-    or-last Never k r s last e next = next e
-
-    find-last : (k : ℕ) (xs : List (List ℕ)) → findIn on w h t k xs ≡ Nothing → findIn on w h t k (xs ++ t ∷ []) ≡ At (k + length xs) (flip false false)
-    find-last k [] e = rw (match-self, add-zero k)
-    find-last k (a ∷ xs) e =
-        or-last (matchFlip on w h a t) k (findIn on w h t (suc k) xs) (findIn on w h t (suc k) (xs ++ t ∷ [])) (At (k + suc (length xs)) (flip false false)) e
-        (λ n. find-last (suc k) xs n ∙ ap (λ (i : ℕ). At i (flip false false)) (suc-add k (length xs) ∙ sym (add-suc k (length xs))))
-
-    -- a tile that is not found, put at the end, is found there
-    pub look-last : (xs : List (List ℕ)) → lookUp on w h xs t ≡ Nothing → lookUp on w h (xs ++ t ∷ []) t ≡ At (length xs) (flip false false)
-    unfolding lookUp
-    look-last xs e = find-last 0 xs e ∙ ap (λ (i : ℕ). At i (flip false false)) (zero-add (length xs))
-
-  -- what an answer tells: an allowed flip takes the tile at the place to the tile that was asked for
-  abbrev Stands : ℕ → List (List ℕ) → Found → Type 0
-  Stands k xs (At j f) = (i : ℕ) × (j ≡ k + i) × (i < length xs) × Takes on w h (getD xs i []) t f
-  Stands k xs Nothing = Unit {0}
-
-  next-stands : (a : List ℕ) (k : ℕ) (xs : List (List ℕ)) (r : Found) → Stands (suc k) xs r → Stands k (a ∷ xs) r
-  next-stands a k xs (At j f) s = (suc (s .0), omega (arith, s .1), omega (arith, s .2), s .3)
-  next-stands a k xs Nothing s = tt
-
-  or-stands : (a : List ℕ) (k : ℕ) (xs : List (List ℕ)) (m : Match) (r : Found) → Told on w h a t m → Stands (suc k) xs r → Stands k (a ∷ xs) (foundOr m k r)
-  or-stands a k xs (Under f) r told s = (0, omega arith, omega arith, told)
-  or-stands a k xs Never r told s = next-stands a k xs r s
-
-  find-stands : (k : ℕ) (xs : List (List ℕ)) → Stands k xs (findIn on w h t k xs)
-  find-stands k [] = tt
-  find-stands k (a ∷ xs) = or-stands a k xs (matchFlip on w h a t) (findIn on w h t (suc k) xs) (match-told on w h a t) (find-stands (suc k) xs)
-
-  pub look-told : (xs : List (List ℕ)) {k : ℕ} {f : Flip} → lookUp on w h xs t ≡ At k f → (k < length xs) × Takes on w h (getD xs k []) t f
-  unfolding lookUp
-  look-told xs {k} {f} e =
-      let s : Stands 0 xs (At k f) = subst (Stands 0 xs) e (find-stands 0 xs) in
-      let q : k ≡ s .0 = omega (arith, s .1) in
-      (omega (arith, s .2), subst (λ (i : ℕ). Takes on w h (getD xs i []) t f) (sym q) (s .3))
-
--- ---- one tile more
-
-module _ (discard on : Bool) (w h : ℕ) where
-  all-next : (st ts : List (List ℕ)) (t : List ℕ) → keepAll discard on w h st (ts ++ t ∷ []) ≡ keep discard on w h (keepAll discard on w h st ts) t
-  all-next st [] t = refl
-  all-next st (u ∷ ts) t = all-next (keep discard on w h st u) ts t
-
-  pub kept-next : (ts : List (List ℕ)) (t : List ℕ) → kept discard on w h (ts ++ t ∷ []) ≡ keep discard on w h (kept discard on w h ts) t
-  unfolding kept
-  kept-next ts t = all-next [] ts t
-
-  pub found-more : (st : List (List ℕ)) (u t : List ℕ) → isFound (lookUp on w h st t) ≡ true → lookUp on w h (keep discard on w h st u) t ≡ lookUp on w h st t
-  unfolding keep
-  found-more st u t p =
-      either (λ (x : List (List ℕ)). lookUp on w h x t ≡ lookUp on w h st t) (discard && isFound (lookUp on w h st u)) st (st ++ u ∷ [])
-      refl (look-more on w h t st (u ∷ []) p)
-
-  -- what a look-up finds right after the tile was taken: what it found before, or the last place
-  pub after-found : (st : List (List ℕ)) (t : List ℕ) {k : ℕ} {f : Flip} → lookUp on w h st t ≡ At k f → lookUp on w h (keep discard on w h st t) t ≡ At k f
-  after-found st t e = found-more st t t (ap isFound e) ∙ e
-
-  not-found : (d : Bool) (r : Found) → r ≡ Nothing → (d && isFound r) ≡ false
-  not-found true r e = ap isFound e
-  not-found false r e = refl
-
-  -- a tile that is not found is stored
-  pub keep-new : (st : List (List ℕ)) (t : List ℕ) → lookUp on w h st t ≡ Nothing → keep discard on w h st t ≡ st ++ t ∷ []
-  unfolding keep
-  keep-new st t e = ap (λ (b : Bool). cond b st (st ++ t ∷ [])) (not-found discard (lookUp on w h st t) e)
-
-  pub after-new : 0 < w → (st : List (List ℕ)) (t : List ℕ) → length t ≡ w * h → lookUp on w h st t ≡ Nothing
-      → lookUp on w h (keep discard on w h st t) t ≡ At (length st) (flip false false)
-  after-new z st t len e = ap (λ (x : List (List ℕ)). lookUp on w h x t) (keep-new st t e) ∙ look-last on w h t z len st e
-
-  self-case : 0 < w → (st : List (List ℕ)) (t : List ℕ) → length t ≡ w * h → (r : Found) → lookUp on w h st t ≡ r → isFound (lookUp on w h (keep discard on w h st t) t) ≡ true
-  self-case z st t len (At k f) e = ap isFound (after-found st t e)
-  self-case z st t len Nothing e = ap isFound (after-new z st t len e)
-
-  -- a tile is found once it was taken
-  pub keep-self : 0 < w → (st : List (List ℕ)) (t : List ℕ) → length t ≡ w * h → isFound (lookUp on w h (keep discard on w h st t) t) ≡ true
-  keep-self z st t len = self-case z st t len (lookUp on w h st t) refl
-
-  pub found-below : (st : List (List ℕ)) (t : List ℕ) {k : ℕ} {f : Flip} → lookUp on w h st t ≡ At k f → k < length st
-  found-below st t e = look-told on w h t st e .0
-
-  pub keep-grows : (st : List (List ℕ)) (t : List ℕ) → length st ≤ length (keep discard on w h st t)
-  unfolding keep
-  keep-grows st t =
-      either (λ (x : List (List ℕ)). length st ≤ length x) (discard && isFound (lookUp on w h st t)) st (st ++ t ∷ [])
-      (omega arith) (omega (arith, length-append st (t ∷ [])))
 
 -- ---- the tiles of a picture, taken one after the other
 
@@ -225,32 +97,7 @@ module _ (discard on : Bool) (d w h columns : ℕ) (pixels : List ℕ) where
       omega (arith, kept-grows n i (le-of-suc-le-suc l), ap (λ (x : List (List ℕ)). length x) (after-next n), keep-grows discard on w h (after n) (tileAt n)))
       (eq-or-lt-of-le le)
 
--- ---- what holds of every tile holds of those that are stored
-
-abbrev pub Every : (List ℕ → Type 0) → List (List ℕ) → Type 0
-Every P ts = (i : ℕ) → i < length ts → P (getD ts i [])
-
-every-more : (P : List ℕ → Type 0) (ts : List (List ℕ)) (t : List ℕ) → Every P ts → P t → Every P (ts ++ t ∷ [])
-every-more P ts t all p i lt =
-    let len : length (ts ++ t ∷ []) ≡ length ts + 1 = length-append ts (t ∷ []) in
-    ⊎-elim
-    (λ (q : i ≡ length ts). subst P (sym (ap (λ (k : ℕ). getD (ts ++ t ∷ []) k []) q ∙ getD-append-seam ts t [] [])) p)
-    (λ (l : i < length ts). subst P (sym (List·getD-append ts (t ∷ []) [] i l)) (all i l))
-    (eq-or-lt-of-le (omega arith))
-
-module _ (discard on : Bool) (w h : ℕ) (P : List ℕ → Type 0) where
-  keep-every : (st : List (List ℕ)) (t : List ℕ) → Every P st → P t → Every P (keep discard on w h st t)
-  unfolding keep
-  keep-every st t all p = either (Every P) (discard && isFound (lookUp on w h st t)) st (st ++ t ∷ []) all (every-more P st t all p)
-
-  all-every : (st ts : List (List ℕ)) → Every P st → Every P ts → Every P (keepAll discard on w h st ts)
-  all-every st [] all others = all
-  all-every st (t ∷ ts) all others =
-      all-every (keep discard on w h st t) ts (keep-every st t all (others 0 (omega arith))) (λ i lt. others (suc i) (omega arith))
-
-  pub kept-every : (ts : List (List ℕ)) → Every P ts → Every P (kept discard on w h ts)
-  unfolding kept
-  kept-every ts all = all-every [] ts (λ i lt. absurd (not-suc-le-zero lt)) all
+-- ---- every stored tile
 
 module _ (discard on : Bool) (d w h columns : ℕ) (pixels : List ℕ) (n : ℕ) where
   cut-every : (P : List ℕ → Type 0) → ((i : ℕ) → P (cutTile d w h columns pixels i)) → Every P (cutTiles d w h columns pixels n)
@@ -266,70 +113,3 @@ module _ (discard on : Bool) (d w h columns : ℕ) (pixels : List ℕ) (n : ℕ)
   kept-small =
       kept-every discard on w h (λ t. (p : ℕ) → getD t p 0 < 2 ^ d) (cutTiles d w h columns pixels n)
       (cut-every (λ t. (p : ℕ) → getD t p 0 < 2 ^ d) (cutTile-small d w h columns pixels))
-
--- ---- how many they are
-
-module _ (on : Bool) (w h : ℕ) (z : 0 < w) where
-  abbrev Same : List (List ℕ) → List (List ℕ) → Type 0
-  Same st seen = Alike on w h z st seen
-
-  one-need : (b : Bool) (st seen : List (List ℕ)) (t : List ℕ) (ts : List (List ℕ)) → matchesSome on w h st t ≡ b → Same st seen
-      → ((st seen : List (List ℕ)) → Same st seen → length (keepAll true on w h st ts) ≡ length st + fresh on w h seen ts)
-      → length (keepAll true on w h (cond b st (st ++ t ∷ [])) ts) ≡ length st + (bit (not b) + fresh on w h (seen ++ t ∷ []) ts)
-  one-need true st seen t ts e same rest = omega (arith, rest st (seen ++ t ∷ []) (alike-gone on w h z st seen t same e))
-  one-need false st seen t ts e same rest =
-      omega (arith, rest (st ++ t ∷ []) (seen ++ t ∷ []) (alike-kept on w h z st seen t same), length-append st (t ∷ []))
-
-  all-need : (st seen ts : List (List ℕ)) → Same st seen → length (keepAll true on w h st ts) ≡ length st + fresh on w h seen ts
-  unfolding keep
-  all-need st seen [] same = omega arith
-  all-need st seen (t ∷ ts) same =
-      ap (λ (b : Bool). length (keepAll true on w h (cond b st (st ++ t ∷ [])) ts)) (look-some on w h st t)
-      ∙ one-need (matchesSome on w h st t) st seen t ts refl same (λ st seen same. all-need st seen ts same)
-      ∙ ap (λ (b : Bool). length st + (bit (not b) + fresh on w h (seen ++ t ∷ []) ts)) (same t)
-
-  off-all : (st ts : List (List ℕ)) → length (keepAll false on w h st ts) ≡ length st + length ts
-  unfolding keep
-  off-all st [] = omega arith
-  off-all st (t ∷ ts) = omega (arith, off-all (st ++ t ∷ []) ts, length-append st (t ∷ []))
-
-  -- "matches no earlier tile of the picture" is "is not found among those stored"
-  pub kept-need : (discard : Bool) (ts : List (List ℕ)) → length (kept discard on w h ts) ≡ need discard on w h ts
-  unfolding kept need
-  kept-need true ts = omega (arith, all-need [] [] ts (λ u. refl))
-  kept-need false ts = omega (arith, off-all [] ts)
-
-module _ (on : Bool) (w h : ℕ) where
-  one-apart : (b : Bool) (st : List (List ℕ)) (t : List ℕ) → matchesSome on w h st t ≡ b → Apart on w h st → Apart on w h (cond b st (st ++ t ∷ []))
-  one-apart true st t e apart = apart
-  one-apart false st t e apart = apart-more on w h st t e apart
-
-  all-apart : (st ts : List (List ℕ)) → Apart on w h st → Apart on w h (keepAll true on w h st ts)
-  unfolding keep
-  all-apart st [] apart = apart
-  all-apart st (t ∷ ts) apart =
-      all-apart (cond (isFound (lookUp on w h st t)) st (st ++ t ∷ [])) ts
-      (one-apart (isFound (lookUp on w h st t)) st t (sym (look-some on w h st t)) apart)
-
-  -- with discarding on, no two stored tiles match
-  pub kept-apart : (ts : List (List ℕ)) → Apart on w h (kept true on w h ts)
-  unfolding kept
-  kept-apart ts = all-apart [] ts (apart-none on w h)
-
-  one-sum : (b : Bool) → bit (not b) + bit b ≡ 1
-  one-sum true = refl
-  one-sum false = refl
-
-  all-sum : (seen ts : List (List ℕ)) → fresh on w h seen ts + again on w h seen ts ≡ length ts
-  all-sum seen [] = refl
-  all-sum seen (t ∷ ts) = omega (arith, one-sum (matchesSome on w h seen t), all-sum (seen ++ t ∷ []) ts)
-
-  -- each tile is needed or dropped
-  pub need-dropped : (discard : Bool) (ts : List (List ℕ)) → need discard on w h ts + dropped discard on w h ts ≡ length ts
-  unfolding need dropped
-  need-dropped true ts = all-sum [] ts
-  need-dropped false ts = add-zero (length ts)
-
-  pub none-dropped : (ts : List (List ℕ)) → dropped false on w h ts ≡ 0
-  unfolding dropped
-  none-dropped ts = refl

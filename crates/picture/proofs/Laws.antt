@@ -7,22 +7,23 @@ use Prim.Native.Nat.{ℕ, suc, _+_, _*_, _<_, _≤_}
 use native.Mathlib.Omega.{arith}
 use lib.ListN.{length, take, drop}
 use lib.Seq.{take-at}
-use Rattle.words.specs.Answers.{lowest, unless, overwrite}
+use Rattle.words.specs.Answers.{firstApplying, unless, overwrite}
 use Rattle.words.proofs.Answers.{when-done}
 use Rattle.tileset.specs.Finding.{lookUp, isFound, cutTo}
 use Rattle.tileset.specs.Sets.{roomIn, newSet}
-use Rattle.tileset.specs.History.{setAtEnd, storeAtEnd, accepted as adds, tilesOf as setTiles, Apart}
+use Rattle.tileset.specs.Matched.{Apart}
+use Rattle.tileset.specs.Keeping.{kept, discarded}
+use Rattle.tileset.specs.History.{setAtEnd, storeAtEnd, accepted as adds, setTiles}
 use Rattle.tileset.specs.declared.Set.{Set}
 use Rattle.picture.specs.Cells.{cutTile, cutTiles}
-use Rattle.picture.specs.Keeping.{kept, dropped}
-use Rattle.picture.specs.Converting.{places, tilesOf, storedOf, needOf, droppedOf, tileBytes, foundAt, mapBytes, roomOf, sizeSays, convertChecks, convertSays, Converts}
+use Rattle.picture.specs.Converting.{places, pictureTiles, storedOf, needOf, discardedOf, tileBytes, foundAt, mapBytes, pictureRoom, sizeSays, convertChecks, convertSays, Converts}
 use Rattle.picture.specs.Redrawing.{drawn, redrawSays}
 use Rattle.picture.specs.Inner.{askedSays}
 use Rattle.picture.specs.declared.Settings.{Settings}
 use Rattle.picture.specs.declared.Picture.{Picture}
 use Rattle.picture.proofs.Checks.{convert-12, convert-0, convert-passed}
-use Rattle.picture.proofs.Kept.{kept-apart, none-dropped}
-use Rattle.picture.proofs.Converted.{found-taken, is-found, stored-need, stored-dropped}
+use Rattle.tileset.proofs.Keeping.{kept-apart, none-discarded}
+use Rattle.picture.proofs.Converted.{found-taken, is-found, stored-need, stored-discarded}
 use Rattle.picture.proofs.Room.{convert-full}
 use Rattle.picture.proofs.ByAdding.{tiles-accepted, tiles-stored, tiles-count, tiles-sum, tiles-cut}
 use Rattle.picture.proofs.Redrawn.{tiles-fit, map-fits, redraw-accepted, drawn-back}
@@ -53,9 +54,9 @@ bytes-fit z pixels tileRoom mapRoom done = (tiles-fit z pixels tileRoom mapRoom 
 -- ---- what a picture stores, names and discards
 
 module _ (z : Settings) (pixels : List ℕ) where
-  on-apart : (discard : Bool) → discard ≡ true → Apart (z .flip) 8 8 (kept discard (z .flip) 8 8 (tilesOf z pixels))
+  on-apart : (discard : Bool) → discard ≡ true → Apart (z .flip) 8 8 (kept discard (z .flip) 8 8 (pictureTiles z pixels))
   on-apart discard on =
-      subst (λ (b : Bool). Apart (z .flip) 8 8 (kept b (z .flip) 8 8 (tilesOf z pixels))) (sym on) (kept-apart (z .flip) 8 8 (tilesOf z pixels))
+      subst (λ (b : Bool). Apart (z .flip) 8 8 (kept b (z .flip) 8 8 (pictureTiles z pixels))) (sym on) (kept-apart (z .flip) 8 8 (pictureTiles z pixels))
 
   -- with discarding on, no two stored tiles match
   pub no-two-match : z .discard ≡ true → Apart (z .flip) 8 8 (storedOf z pixels)
@@ -77,14 +78,14 @@ module _ (z : Settings) (pixels : List ℕ) where
   stored-needed = stored-need z pixels
 
   -- each tile is stored or discarded
-  pub all-counted : length (storedOf z pixels) + droppedOf z pixels ≡ places z
-  all-counted = stored-dropped z pixels
+  pub all-counted : length (storedOf z pixels) + discardedOf z pixels ≡ places z
+  all-counted = stored-discarded z pixels
 
   -- with discarding off, none is discarded and all are stored
-  pub none-discarded : z .discard ≡ false → droppedOf z pixels ≡ 0
-  unfolding droppedOf
+  pub none-discarded : z .discard ≡ false → discardedOf z pixels ≡ 0
+  unfolding discardedOf
   none-discarded off =
-      ap (λ (b : Bool). dropped b (z .flip) 8 8 (tilesOf z pixels)) off ∙ none-dropped (z .flip) 8 8 (tilesOf z pixels)
+      ap (λ (b : Bool). discarded b (z .flip) 8 8 (pictureTiles z pixels)) off ∙ none-discarded (z .flip) 8 8 (pictureTiles z pixels)
 
   pub all-stored : z .discard ≡ false → length (storedOf z pixels) ≡ places z
   all-stored off = omega (arith, all-counted, none-discarded off)
@@ -94,15 +95,15 @@ module _ (z : Settings) (pixels : List ℕ) where
 module _ (z : Settings) (pixels : List ℕ) (tileRoom mapRoom : ℕ) where
   -- what the five checks before the room's answer
   abbrev pub earlier : ℕ
-  earlier = lowest (take 5 (convertChecks z pixels tileRoom mapRoom))
+  earlier = firstApplying (take 5 (convertChecks z pixels tileRoom mapRoom))
 
-  pub refused-for-room : (convertSays z pixels tileRoom mapRoom ≡ 12 → (earlier ≡ 0) × (roomOf z tileRoom < needOf z pixels))
-      × (earlier ≡ 0 → roomOf z tileRoom < needOf z pixels → convertSays z pixels tileRoom mapRoom ≡ 12)
+  pub refused-for-room : (convertSays z pixels tileRoom mapRoom ≡ 12 → (earlier ≡ 0) × (pictureRoom z tileRoom < needOf z pixels))
+      × (earlier ≡ 0 → pictureRoom z tileRoom < needOf z pixels → convertSays z pixels tileRoom mapRoom ≡ 12)
   unfolding askedSays
   refused-for-room = (convert-full z pixels tileRoom mapRoom, λ a lt. sym (convert-12 z pixels tileRoom mapRoom a lt))
 
-  pub done-with-room : (convertSays z pixels tileRoom mapRoom ≡ 0 → (earlier ≡ 0) × (needOf z pixels ≤ roomOf z tileRoom))
-      × (earlier ≡ 0 → needOf z pixels ≤ roomOf z tileRoom → convertSays z pixels tileRoom mapRoom ≡ 0)
+  pub done-with-room : (convertSays z pixels tileRoom mapRoom ≡ 0 → (earlier ≡ 0) × (needOf z pixels ≤ pictureRoom z tileRoom))
+      × (earlier ≡ 0 → needOf z pixels ≤ pictureRoom z tileRoom → convertSays z pixels tileRoom mapRoom ≡ 0)
   unfolding askedSays
   done-with-room = (convert-passed z pixels tileRoom mapRoom, convert-0 z pixels tileRoom mapRoom)
 
@@ -142,7 +143,7 @@ module _ (z : Settings) (pixels tiles map : List ℕ) (r : Picture) (tilesAfter 
   pub counts : r .tiles + r .discarded ≡ places z
   counts =
       ap (λ (x : Picture). x .tiles + x .discarded) (done .0 .answer)
-      ∙ ap (λ (k : ℕ). unless k (length (storedOf z pixels)) 0 + unless k (droppedOf z pixels) 0) says-0
+      ∙ ap (λ (k : ℕ). unless k (length (storedOf z pixels)) 0 + unless k (discardedOf z pixels) 0) says-0
       ∙ all-counted z pixels
 
 -- two conversions that left the same written bytes were of the same picture, cut to the depth
@@ -163,7 +164,7 @@ module _ (z : Settings) (pixels : List ℕ) (limit : ℕ) (store : List ℕ) (ps
   abbrev emptySet : Set
   emptySet = newSet (z .mode) (z .depth) 8 8 (z .flip) (z .discard) limit
 
-  module _ (size : sizeSays (z .mode) (z .depth) (z .columns) (z .rows) ≡ 0) (cut : map (cutTo (z .depth)) ps ≡ tilesOf z pixels)
+  module _ (size : sizeSays (z .mode) (z .depth) (z .columns) (z .rows) ≡ 0) (cut : map (cutTo (z .depth)) ps ≡ pictureTiles z pixels)
       (room : needOf z pixels ≤ roomIn emptySet (length store)) where
     -- every add is answered 0
     pub adds-accepted : adds emptySet store ps ≡ places z
@@ -173,10 +174,10 @@ module _ (z : Settings) (pixels : List ℕ) (limit : ℕ) (store : List ℕ) (ps
     pub adds-store : setTiles (setAtEnd emptySet store ps) (storeAtEnd emptySet store ps) ≡ storedOf z pixels
     adds-store = tiles-stored z pixels size limit store ps cut room
 
-    pub adds-discard : setAtEnd emptySet store ps .discarded ≡ droppedOf z pixels
+    pub adds-discard : setAtEnd emptySet store ps .discarded ≡ discardedOf z pixels
     adds-discard = omega (arith, tiles-sum z pixels size limit store ps cut room, tiles-count z pixels size limit store ps cut room, all-counted z pixels)
 
 -- the picture's tiles are such tiles
-pub tiles-cut-again : (z : Settings) (pixels : List ℕ) → map (cutTo (z .depth)) (tilesOf z pixels) ≡ tilesOf z pixels
-unfolding tilesOf
+pub tiles-cut-again : (z : Settings) (pixels : List ℕ) → map (cutTo (z .depth)) (pictureTiles z pixels) ≡ pictureTiles z pixels
+unfolding pictureTiles
 tiles-cut-again z pixels = tiles-cut (z .depth) 8 8 (z .columns) pixels (places z)

@@ -19,14 +19,14 @@ use Rattle.tile.specs.Tile.{packed}
 use Rattle.tileset.specs.declared.Found.{Found}
 use Rattle.tileset.specs.declared.Found.the-variants.{At, Nothing}
 use Rattle.index.proofs.Chains.{tiles-at, tiles-long}
-use Rattle.picture.specs.Keeping.{entryFor}
-use Rattle.picture.specs.Converting.{places, storedOf, needOf, droppedOf, tileBytes, foundAt, mapBytes, pictured, answerOf, Converts}
+use Rattle.picture.specs.Entries.{entryFor}
+use Rattle.picture.specs.Converting.{places, storedOf, needOf, discardedOf, tileBytes, foundAt, mapBytes, pictured, answerOf, Converts}
 use Rattle.picture.specs.Inner.{codeOf, entryCoded, IsPicture, GatheredWith, GatheredAs}
 use Rattle.picture.specs.declared.Settings.{Settings}
 use Rattle.picture.specs.declared.Picture.{Picture}
 use Rattle.picture.specs.declared.Gathered.{Gathered}
 use Rattle.picture.specs.declared.Gathered.the-variants.{Count, NoRoom}
-use Rattle.picture.proofs.Converted.{stored-need, stored-dropped, found-fits, tile-bytes-length, map-bytes-length}
+use Rattle.picture.proofs.Converted.{stored-need, stored-discarded, found-fits, tile-bytes-length, map-bytes-length}
 
 -- ---- an entry, from its code
 
@@ -70,7 +70,7 @@ module _ {z : Settings} {pixels : List ℕ} {room : ℕ} {store codes : List ℕ
   stored-count = ap length (sym (g .stored)) ∙ tiles-long 64 store count
 
   pub count-few : count ≤ places z
-  count-few = omega (arith, stored-count, stored-dropped z pixels)
+  count-few = omega (arith, stored-count, stored-discarded z pixels)
 
   stored-at : (k : ℕ) → k < count → take 64 (drop (k * 64) store) ≡ getD (storedOf z pixels) k []
   stored-at k lt = sym (tiles-at 64 store count k lt) ∙ ap (λ (ts : List (List ℕ)). getD ts k []) (g .stored)
@@ -129,10 +129,10 @@ pub answer-is : {z : Settings} {pixels : List ℕ} {room : ℕ} {store codes : L
     → (size : ℕ) → size ≡ row (z .mode) .entry → told count (places z - count) (count * (z .depth * 8)) (places z * size) ≡ answerOf 0 z pixels
 answer-is {z} {pixels} {count = count} g s size e =
     let n : count ≡ length (storedOf z pixels) = sym (stored-count g) in
-    let d : places z - count ≡ droppedOf z pixels = omega (arith, stored-dropped z pixels) in
+    let d : places z - count ≡ discardedOf z pixels = omega (arith, stored-discarded z pixels) in
     let t : count * (z .depth * 8) ≡ length (tileBytes z pixels) = ap (λ (i : ℕ). i * (z .depth * 8)) n ∙ sym (tile-bytes-length z pixels s) in
     let l : places z * size ≡ length (mapBytes z pixels) = ap (λ (i : ℕ). places z * i) e ∙ sym (map-bytes-length z pixels) in
     ap (λ (i : ℕ). told i (places z - count) (count * (z .depth * 8)) (places z * size)) n
     ∙ ap (λ (i : ℕ). told (length (storedOf z pixels)) i (count * (z .depth * 8)) (places z * size)) d
-    ∙ ap (λ (i : ℕ). told (length (storedOf z pixels)) (droppedOf z pixels) i (places z * size)) t
-    ∙ ap (told (length (storedOf z pixels)) (droppedOf z pixels) (length (tileBytes z pixels))) l
+    ∙ ap (λ (i : ℕ). told (length (storedOf z pixels)) (discardedOf z pixels) i (places z * size)) t
+    ∙ ap (told (length (storedOf z pixels)) (discardedOf z pixels) (length (tileBytes z pixels))) l

@@ -9,7 +9,7 @@ use native.Mathlib.Omega.{arith}
 use lib.Dec.{ltb, eqb}
 use lib.ListN.{length, getD}
 use borrow.Author.Tests.{lt-ltb, le-ltb, ltb-false, leb-false, eq-eqb, ne-eqb, eqb-true, not-false}
-use Rattle.words.specs.Answers.{_when_, lowest}
+use Rattle.words.specs.Answers.{_when_, firstApplying}
 use Rattle.words.specs.Loops.{some}
 use Rattle.words.proofs.Answers.{all-passed, not-given, first-given}
 use Rattle.words.proofs.Items.{none-at}
@@ -55,32 +55,32 @@ module _ (m d columns rows : ℕ) (tiles map : List ℕ) (room : ℕ) where
   module _ (s : size ≡ 0) where
     pub redraw-tiles : (left ≡ 0 → ⊥) → 7 ≡ says
     unfolding redrawSays
-    redraw-tiles e = sym (next-given from-tiles s ∙ ap (λ (b : Bool). lowest (7 when not b ∷ from-map)) (ne-eqb left 0 e))
+    redraw-tiles e = sym (next-given from-tiles s ∙ ap (λ (b : Bool). firstApplying (7 when not b ∷ from-map)) (ne-eqb left 0 e))
 
     module _ (t : left ≡ 0) where
-      to-map : says ≡ lowest from-map
+      to-map : says ≡ firstApplying from-map
       unfolding redrawSays
       to-map = next-given from-tiles s ∙ next-given from-map (ap (λ (b : Bool). 7 when not b) (eq-eqb left 0 t))
 
       pub redraw-map : (length map ≡ due → ⊥) → 7 ≡ says
-      redraw-map e = sym (to-map ∙ ap (λ (b : Bool). lowest (7 when not b ∷ from-named)) (ne-eqb (length map) due e))
+      redraw-map e = sym (to-map ∙ ap (λ (b : Bool). firstApplying (7 when not b ∷ from-named)) (ne-eqb (length map) due e))
 
       module _ (l : length map ≡ due) where
-        to-named : says ≡ lowest from-named
+        to-named : says ≡ firstApplying from-named
         to-named = to-map ∙ next-given from-named (ap (λ (b : Bool). 7 when not b) (eq-eqb (length map) due l))
 
         pub redraw-named : more ≡ true → 7 ≡ says
-        redraw-named e = sym (to-named ∙ ap (λ (b : Bool). lowest (7 when b ∷ from-11)) e)
+        redraw-named e = sym (to-named ∙ ap (λ (b : Bool). firstApplying (7 when b ∷ from-11)) e)
 
         module _ (n : more ≡ false) where
-          to-room : says ≡ lowest from-11
+          to-room : says ≡ firstApplying from-11
           to-room = to-named ∙ next-given from-11 (ap (λ (b : Bool). 7 when b) n)
 
           pub redraw-11 : room < 64 * (columns * rows) → 11 ≡ says
-          redraw-11 h = sym (to-room ∙ ap (λ (b : Bool). lowest (11 when b ∷ [])) (lt-ltb room (64 * (columns * rows)) h))
+          redraw-11 h = sym (to-room ∙ ap (λ (b : Bool). firstApplying (11 when b ∷ [])) (lt-ltb room (64 * (columns * rows)) h))
 
           pub redraw-0 : 64 * (columns * rows) ≤ room → 0 ≡ says
-          redraw-0 h = sym (to-room ∙ ap (λ (b : Bool). lowest (11 when b ∷ [])) (le-ltb room (64 * (columns * rows)) h))
+          redraw-0 h = sym (to-room ∙ ap (λ (b : Bool). firstApplying (11 when b ∷ [])) (le-ltb room (64 * (columns * rows)) h))
 
   -- ---- nothing was refused
 

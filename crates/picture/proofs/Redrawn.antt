@@ -25,14 +25,15 @@ use Rattle.tileset.specs.declared.Found.{Found}
 use Rattle.tileset.specs.declared.Found.the-variants.{At, Nothing}
 use Rattle.tileset.proofs.Stores.{length-cut, cut-at}
 use Rattle.picture.specs.Cells.{tileOver, placeOver, cutTile}
-use Rattle.picture.specs.Keeping.{entryAs, entryFor}
-use Rattle.picture.specs.Converting.{places, tilesOf, storedOf, tileBytes, foundAt, mapBytes, roomOf, convertSays}
+use Rattle.picture.specs.Entries.{entryAs, entryFor}
+use Rattle.picture.specs.Converting.{places, pictureTiles, storedOf, tileBytes, foundAt, mapBytes, pictureRoom, convertSays}
 use Rattle.picture.specs.Redrawing.{entryAt, drawnTile, drawn, namesMore, redrawSays}
 use Rattle.picture.specs.Inner.{askedSays, IsPicture}
 use Rattle.picture.specs.declared.Settings.{Settings}
 use Rattle.picture.proofs.Checks.{IsSize, tile-8, native-tile, size-passed, asked-sized, asked-picture, asked-map, room-named, room-bytes, convert-passed}
 use Rattle.picture.proofs.Cells.{number-at, cutTile-at, pixelAt-back, placeOver-lt, tileOver-lt}
-use Rattle.picture.proofs.Kept.{look-told, kept-sizes, kept-small}
+use Rattle.tileset.proofs.Keeping.{look-told}
+use Rattle.picture.proofs.Kept.{kept-sizes, kept-small}
 use Rattle.picture.proofs.Converted.{packed-size, entry-size, tile-is, is-found, stored-need, found-fits, tile-bytes-length, map-bytes-length}
 use Rattle.picture.proofs.RedrawChecks.{redraw-0}
 use Rattle.picture.proofs.Drawing.{picture-length}
@@ -50,11 +51,11 @@ module _ (z : Settings) (pixels : List ℕ) where
   tile i = cutTile (z .depth) 8 8 (z .columns) pixels i
 
   stored-size : (k : ℕ) → k < length stored → length (getD stored k []) ≡ 64
-  unfolding storedOf tilesOf
+  unfolding storedOf pictureTiles
   stored-size k lt = kept-sizes (z .discard) (z .flip) (z .depth) 8 8 (z .columns) pixels (places z) k lt
 
   stored-small : (k : ℕ) → k < length stored → (p : ℕ) → getD (getD stored k []) p 0 < 2 ^ z .depth
-  unfolding storedOf tilesOf
+  unfolding storedOf pictureTiles
   stored-small k lt = kept-small (z .discard) (z .flip) (z .depth) 8 8 (z .columns) pixels (places z) k lt
 
   -- each tile has a stored tile that an allowed flip takes to it
@@ -87,7 +88,7 @@ module _ (z : Settings) (pixels : List ℕ) where
     picture : IsPicture z (length pixels)
     picture = asked-picture z (length pixels) mapRoom asked
 
-    room-for : length stored ≤ roomOf z tileRoom
+    room-for : length stored ≤ pictureRoom z tileRoom
     room-for = omega (arith, stored-need z pixels, convert-passed z pixels tileRoom mapRoom done .1)
 
     -- both buffers hold the bytes

@@ -8,13 +8,13 @@ use native.Mathlib.Omega.{arith}
 use lib.Dec.{ltb, eqb}
 use lib.ListN.{length}
 use borrow.Author.Tests.{ltb-true}
-use Rattle.words.specs.Answers.{_when_, lowest, unless}
+use Rattle.words.specs.Answers.{_when_, firstApplying, unless}
 use Rattle.mode.specs.Table.{row, hasDepth, pce-sprite}
 use Rattle.mapentry.specs.Entry.{misfitOf, misfitSays}
 use Rattle.mapentry.specs.declared.Misfit.{Misfit}
 use Rattle.mapentry.specs.declared.Misfit.the-variants.{Tile, Palette, Flip, Priority, Nothing}
-use Rattle.picture.specs.Keeping.{entryAs}
-use Rattle.picture.specs.Converting.{places, needOf, roomOf, isSpan, sizeChecks, sizeSays, askedChecks, convertSays}
+use Rattle.picture.specs.Entries.{entryAs}
+use Rattle.picture.specs.Converting.{places, needOf, pictureRoom, isSpan, sizeChecks, sizeSays, askedChecks, convertSays}
 use Rattle.picture.specs.Inner.{askedSays}
 use Rattle.picture.specs.declared.Settings.{Settings}
 use Rattle.picture.proofs.Checks.{convert-is}
@@ -24,7 +24,7 @@ abbrev UpTo : ℕ → List ℕ → Type 0
 UpTo k [] = Unit {0}
 UpTo k (n ∷ ns) = (n ≤ k) × UpTo k ns
 
-lowest-le : (k : ℕ) (ns : List ℕ) → UpTo k ns → lowest ns ≤ k
+lowest-le : (k : ℕ) (ns : List ℕ) → UpTo k ns → firstApplying ns ≤ k
 lowest-le k [] h = omega arith
 lowest-le k (zero ∷ ns) h = lowest-le k ns (h .1)
 lowest-le k (suc n ∷ ns) h = h .0
@@ -81,5 +81,5 @@ module _ (z : Settings) (pixels : List ℕ) (tileRoom mapRoom : ℕ) where
         ),
       )
 
-  pub convert-full : convertSays z pixels tileRoom mapRoom ≡ 12 → (askedSays z (length pixels) mapRoom ≡ 0) × (roomOf z tileRoom < needOf z pixels)
-  convert-full e = twelve-means (roomOf z tileRoom) (needOf z pixels) (askedSays z (length pixels) mapRoom) asked-le (sym (convert-is z pixels tileRoom mapRoom) ∙ e)
+  pub convert-full : convertSays z pixels tileRoom mapRoom ≡ 12 → (askedSays z (length pixels) mapRoom ≡ 0) × (pictureRoom z tileRoom < needOf z pixels)
+  convert-full e = twelve-means (pictureRoom z tileRoom) (needOf z pixels) (askedSays z (length pixels) mapRoom) asked-le (sym (convert-is z pixels tileRoom mapRoom) ∙ e)

@@ -17,13 +17,14 @@ use Rattle.index.specs.Index.{Indexed, Entered}
 use Rattle.index.proofs.Chains.{tiles-long}
 use Rattle.index.proofs.Entering.{indexed-none}
 use Rattle.picture.specs.Cells.{cutTile, cutTiles}
-use Rattle.picture.specs.Keeping.{keep, kept}
-use Rattle.picture.specs.Converting.{places, tilesOf, storedOf}
+use Rattle.tileset.specs.Keeping.{keep, kept}
+use Rattle.picture.specs.Converting.{places, pictureTiles, storedOf}
 use Rattle.picture.specs.Inner.{standing, codeOf, Keeps, KeptWith, TakenAs, GatheredWith}
 use Rattle.picture.specs.declared.Settings.{Settings}
 use Rattle.picture.specs.declared.Taken.{Taken}
 use Rattle.picture.specs.declared.Taken.the-variants.{Kept, Full}
-use Rattle.picture.proofs.Kept.{after-found, after-new, found-below, after-none, after-next, kept-grows, length-cutTile}
+use Rattle.tileset.proofs.Keeping.{after-found, after-new, found-below}
+use Rattle.picture.proofs.Kept.{after-none, after-next, kept-grows, length-cutTile}
 use Rattle.picture.proofs.Converted.{bit-small, found-taken}
 
 -- ---- one tile
@@ -64,9 +65,9 @@ module _ (discard : Bool) {on : Bool} {store keys heads next : List ℕ} {count 
   coded : {code : ℕ} → code ≡ codeOf (standing found count) → code ≡ codeOf (lookUp on 8 8 (keep discard on 8 8 tiles t) t)
   coded e = e ∙ ap (λ (n : ℕ). codeOf (standing found n)) (sym many) ∙ ap codeOf (stands discard on tiles t (z .whole) looked)
 
-  pub take-dropped : {code : ℕ} → (discard && isFound found) ≡ true → code ≡ codeOf (standing found count)
+  pub take-discarded : {code : ℕ} → (discard && isFound found) ≡ true → code ≡ codeOf (standing found count)
       → KeptWith on (keep discard on 8 8 tiles t) t room store keys heads next count code
-  take-dropped d e =
+  take-discarded d e =
       let same : keep discard on 8 8 tiles t ≡ tiles = pick discard on tiles t (z .whole) looked true d in
       record {
         within = z .within;
@@ -97,11 +98,11 @@ module _ (z : Settings) (pixels : List ℕ) where
   abbrev pub keptOf : ℕ → List (List ℕ)
   keptOf i = kept (z .discard) (z .flip) 8 8 (cutTiles (z .depth) 8 8 (z .columns) pixels i)
 
-  abbrev pub tileOf : ℕ → List ℕ
-  tileOf i = cutTile (z .depth) 8 8 (z .columns) pixels i
+  abbrev pub tileNamed : ℕ → List ℕ
+  tileNamed i = cutTile (z .depth) 8 8 (z .columns) pixels i
 
   abbrev pub foundThen : ℕ → Found
-  foundThen i = lookUp (z .flip) 8 8 (keptOf (suc i)) (tileOf i)
+  foundThen i = lookUp (z .flip) 8 8 (keptOf (suc i)) (tileNamed i)
 
   pub record Gathering (room : ℕ) (codes₀ store keys heads next codes : List ℕ) (count i : ℕ) : Type 0 where
     pub most : i ≤ places z
@@ -126,7 +127,7 @@ module _ (z : Settings) (pixels : List ℕ) where
       }
 
   module _ {room : ℕ} {codes₀ store keys heads next codes : List ℕ} {count i : ℕ} (g : Gathering room codes₀ store keys heads next codes count i)
-      (lt : i < places z) {t : List ℕ} (here : t ≡ tileOf i) where
+      (lt : i < places z) {t : List ℕ} (here : t ≡ tileNamed i) where
     whole : length t ≡ 64
     whole = ap length here ∙ length-cutTile (z .depth) 8 8 (z .columns) pixels i
 
@@ -150,7 +151,7 @@ module _ (z : Settings) (pixels : List ℕ) where
     Took r s k h n taken = TakenAs (z .flip) (keep (z .discard) (z .flip) 8 8 (tilesIn 64 store count) t) t r s k h n taken
 
     pub gather-full : (s k h n : List ℕ) (taken : Taken) → Took room s k h n taken → taken ≡ Full → room < length (storedOf z pixels)
-    unfolding storedOf tilesOf
+    unfolding storedOf pictureTiles
     gather-full s k h n taken took e =
         let full : room < length (keep (z .discard) (z .flip) 8 8 (tilesIn 64 store count) t) = subst (Took room s k h n) e took in
         omega (arith, ap (λ (x : List (List ℕ)). length x) next-kept, kept-grows (z .discard) (z .flip) (z .depth) 8 8 (z .columns) pixels (places z) (suc i) (omega arith))
@@ -179,7 +180,7 @@ module _ (z : Settings) (pixels : List ℕ) where
 
   pub gather-all : {room : ℕ} {codes₀ store keys heads next codes : List ℕ} {count i : ℕ} → Gathering room codes₀ store keys heads next codes count i → i ≡ places z
       → GatheredWith z pixels room store codes count
-  unfolding storedOf tilesOf
+  unfolding storedOf pictureTiles
   gather-all g e =
       record {
         within = g .within;

@@ -6,14 +6,15 @@ use mathlib.Core.List.{List, [], _∷_, _++_}
 use Prim.Native.Nat.{ℕ, _*_, _/_, _^_, min}
 use lib.Dec.{leb, ltb, eqb}
 use lib.ListN.{length, getD}
-use Rattle.words.specs.Answers.{_when_, lowest, unless, overwrite}
+use Rattle.words.specs.Answers.{_when_, firstApplying, unless, overwrite}
 use Rattle.words.specs.Loops.{each}
 use Rattle.mode.specs.Table.{row, hasDepth, pce-sprite}
 use Rattle.mapentry.specs.Entry.{misfitOf, misfitSays, entryBytes}
 use Rattle.tile.specs.Tile.{packed}
 use Rattle.tileset.specs.Finding.{lookUp}
 use Rattle.picture.specs.Cells.{cutTiles}
-use Rattle.picture.specs.Keeping.{kept, need, dropped, entryAs, entryFor}
+use Rattle.tileset.specs.Keeping.{kept, need, discarded}
+use Rattle.picture.specs.Entries.{entryAs, entryFor}
 use Rattle.tileset.specs.declared.Found.{Found}
 use Rattle.picture.specs.declared.Settings.{Settings}
 use Rattle.picture.specs.declared.Picture.{Picture}
@@ -22,31 +23,31 @@ use Rattle.picture.specs.declared.Picture.{Picture}
 abbrev pub places : Settings → ℕ
 places z = z .columns * z .rows
 
-unfoldable pub tilesOf : Settings → List ℕ → List (List ℕ)
-tilesOf z pixels = cutTiles (z .depth) 8 8 (z .columns) pixels (places z)
+unfoldable pub pictureTiles : Settings → List ℕ → List (List ℕ)
+pictureTiles z pixels = cutTiles (z .depth) 8 8 (z .columns) pixels (places z)
 
 unfoldable pub storedOf : Settings → List ℕ → List (List ℕ)
-storedOf z pixels = kept (z .discard) (z .flip) 8 8 (tilesOf z pixels)
+storedOf z pixels = kept (z .discard) (z .flip) 8 8 (pictureTiles z pixels)
 
 unfoldable pub needOf : Settings → List ℕ → ℕ
-needOf z pixels = need (z .discard) (z .flip) 8 8 (tilesOf z pixels)
+needOf z pixels = need (z .discard) (z .flip) 8 8 (pictureTiles z pixels)
 
-unfoldable pub droppedOf : Settings → List ℕ → ℕ
-droppedOf z pixels = dropped (z .discard) (z .flip) 8 8 (tilesOf z pixels)
+unfoldable pub discardedOf : Settings → List ℕ → ℕ
+discardedOf z pixels = discarded (z .discard) (z .flip) 8 8 (pictureTiles z pixels)
 
 -- Its tile bytes, and its map bytes.
 unfoldable pub tileBytes : Settings → List ℕ → List ℕ
 tileBytes z pixels = each (length (storedOf z pixels)) (λ k. packed (z .mode) (z .depth) 8 8 (getD (storedOf z pixels) k []))
 
 unfoldable pub foundAt : Settings → List ℕ → ℕ → Found
-foundAt z pixels i = lookUp (z .flip) 8 8 (storedOf z pixels) (getD (tilesOf z pixels) i [])
+foundAt z pixels i = lookUp (z .flip) 8 8 (storedOf z pixels) (getD (pictureTiles z pixels) i [])
 
 unfoldable pub mapBytes : Settings → List ℕ → List ℕ
 mapBytes z pixels = each (places z) (λ i. entryBytes (z .mode) (entryFor (z .palette) (foundAt z pixels i)))
 
 -- "Room is the least of the limit if not 0, 2^(tile bits), and whole tiles in the tile buffer", of so many bytes.
-unfoldable pub roomOf : Settings → ℕ → ℕ
-roomOf z len =
+unfoldable pub pictureRoom : Settings → ℕ → ℕ
+pictureRoom z len =
     cond (eqb (z .limit) 0) (min (2 ^ row (z .mode) .tile) (len / (z .depth * 8)))
     (min (min (2 ^ row (z .mode) .tile) (len / (z .depth * 8))) (z .limit))
 
@@ -63,7 +64,7 @@ sizeChecks m d columns rows =
     ∷ []
 
 unfoldable pub sizeSays : ℕ → ℕ → ℕ → ℕ → ℕ
-sizeSays m d columns rows = lowest (sizeChecks m d columns rows)
+sizeSays m d columns rows = firstApplying (sizeChecks m d columns rows)
 
 -- "Picture with flips on in a mode without flips" (5), "input length not the one required" (7), "a picture's palette index too large" (10),
 -- "output buffer shorter than the bytes to be written" (11, the map), "no room for the tiles" (12). In: the lengths of pixels, tile buffer and map.
@@ -78,10 +79,10 @@ askedChecks z len mapRoom =
 
 abbrev pub convertChecks : Settings → List ℕ → ℕ → ℕ → List ℕ
 convertChecks z pixels tileRoom mapRoom =
-    askedChecks z (length pixels) mapRoom ++ 12 when ltb (roomOf z tileRoom) (needOf z pixels) ∷ []
+    askedChecks z (length pixels) mapRoom ++ 12 when ltb (pictureRoom z tileRoom) (needOf z pixels) ∷ []
 
 unfoldable pub convertSays : Settings → List ℕ → ℕ → ℕ → ℕ
-convertSays z pixels tileRoom mapRoom = lowest (convertChecks z pixels tileRoom mapRoom)
+convertSays z pixels tileRoom mapRoom = firstApplying (convertChecks z pixels tileRoom mapRoom)
 
 -- "A refusal returns its number, all else returned 0."
 abbrev pub pictured : ℕ → ℕ → ℕ → ℕ → ℕ → Picture
@@ -96,7 +97,7 @@ pictured n tiles discarded tileLength mapLength =
 
 abbrev pub answerOf : ℕ → Settings → List ℕ → Picture
 answerOf n z pixels =
-    pictured n (length (storedOf z pixels)) (droppedOf z pixels) (length (tileBytes z pixels)) (length (mapBytes z pixels))
+    pictured n (length (storedOf z pixels)) (discardedOf z pixels) (length (tileBytes z pixels)) (length (mapBytes z pixels))
 
 -- The promise of a conversion: its answer, and both lent buffers as it leaves them.
 pub record Converts (refusal : ℕ) (z : Settings) (pixels tiles map : List ℕ) (r : Picture) (tilesAfter mapAfter : List ℕ) : Type 0 where

@@ -6,7 +6,7 @@ use mathlib.Core.List.{List, [], _∷_}
 use Prim.Native.Nat.{ℕ, _+_, _*_, _/_, _%_, _^_, _<_, _≤_}
 use lib.Dec.{T, ltb, eqb}
 use lib.ListN.{length, getD}
-use Rattle.words.specs.Answers.{_when_, lowest}
+use Rattle.words.specs.Answers.{_when_, firstApplying}
 use Rattle.words.specs.Bytes.{bit}
 use Rattle.words.specs.Loops.{each}
 use Rattle.mode.specs.Table.{row, hasDepth, pce-sprite}
@@ -17,7 +17,7 @@ use Rattle.tileset.specs.Finding.{tilesIn, lookUp}
 use Rattle.tileset.specs.declared.Found.{Found}
 use Rattle.tileset.specs.declared.Found.the-variants.{At, Nothing}
 use Rattle.index.specs.Index.{Indexed, Entered}
-use Rattle.picture.specs.Keeping.{entryAs}
+use Rattle.picture.specs.Entries.{entryAs}
 use Rattle.picture.specs.Converting.{places, storedOf, foundAt, askedChecks}
 use Rattle.picture.specs.Redrawing.{entryAt, drawnTile}
 use Rattle.picture.specs.declared.Settings.{Settings}
@@ -28,7 +28,7 @@ use Rattle.picture.specs.declared.Gathered.the-variants.{Count, NoRoom}
 
 -- The checks of a conversion that count no tiles.
 unfoldable pub askedSays : Settings → ℕ → ℕ → ℕ
-askedSays z len mapRoom = lowest (askedChecks z len mapRoom)
+askedSays z len mapRoom = firstApplying (askedChecks z len mapRoom)
 
 -- Settings that pass them, with a picture of so many pixels.
 pub record IsPicture (z : Settings) (len : ℕ) : Type 0 where
@@ -149,8 +149,8 @@ pub record Draws (m d columns rows : ℕ) (tiles map out : List ℕ) : Type 0 wh
 abbrev pub stripOf : ℕ → ℕ → ℕ → ℕ → List ℕ → List ℕ → List ℕ
 stripOf m d columns first tiles map = each columns (λ x. drawnTile m d tiles (entryAt m map (first + x)))
 
-abbrev pub lineOf : List ℕ → ℕ → ℕ → List ℕ
-lineOf strip columns y = each columns (λ x. each 8 (λ j. getD strip (x * 64 + y * 8 + j) 0 ∷ []))
+abbrev pub pixelLine : List ℕ → ℕ → ℕ → List ℕ
+pixelLine strip columns y = each columns (λ x. each 8 (λ j. getD strip (x * 64 + y * 8 + j) 0 ∷ []))
 
 -- A line, and eight, that can be put from place at of out on.
 pub record PutsLines (strip : List ℕ) (columns lines : ℕ) (out : List ℕ) (at : ℕ) : Type 0 where

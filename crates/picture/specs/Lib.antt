@@ -1,5 +1,5 @@
 pub mod Cells
-pub mod Keeping
+pub mod Entries
 pub mod Converting
 pub mod Redrawing
 pub mod Inner

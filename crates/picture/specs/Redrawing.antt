@@ -6,7 +6,7 @@ use mathlib.Core.List.{List, [], _∷_}
 use Prim.Native.Nat.{ℕ, _*_, _/_, _%_}
 use lib.Dec.{leb, ltb, eqb}
 use lib.ListN.{length, getD, take, drop}
-use Rattle.words.specs.Answers.{_when_, lowest}
+use Rattle.words.specs.Answers.{_when_, firstApplying}
 use Rattle.words.specs.Loops.{each, some}
 use Rattle.mode.specs.Table.{row}
 use Rattle.mapentry.specs.Entry.{entryOf}
@@ -46,4 +46,4 @@ redrawChecks m d columns rows tiles map room =
     ∷ []
 
 unfoldable pub redrawSays : ℕ → ℕ → ℕ → ℕ → List ℕ → List ℕ → ℕ → ℕ
-redrawSays m d columns rows tiles map room = lowest (redrawChecks m d columns rows tiles map room)
+redrawSays m d columns rows tiles map room = firstApplying (redrawChecks m d columns rows tiles map room)

@@ -18,11 +18,12 @@ ghost use Rattle.mapentry.specs.Entry.{misfitOf, misfitSays, entryBytes};
 ghost use Rattle.tile.specs.Tile.{packed};
 ghost use Rattle.flip.specs.Flips.{flipped};
 ghost use Rattle.tileset.specs.Finding.{tilesIn, isFound};
+ghost use Rattle.tileset.specs.Keeping.{keep};
 ghost use Rattle.picture.specs.Cells.{cutTile};
-ghost use Rattle.picture.specs.Keeping.{keep, entryAs};
-ghost use Rattle.picture.specs.Converting.{isSpan, sizeSays, roomOf, convertSays, pictured, Converts};
+ghost use Rattle.picture.specs.Entries.{entryAs};
+ghost use Rattle.picture.specs.Converting.{isSpan, sizeSays, pictureRoom, convertSays, pictured, Converts};
 ghost use Rattle.picture.specs.Redrawing.{entryAt, drawnTile, drawn, redrawSays};
-ghost use Rattle.picture.specs.Inner.{askedSays, HasTile, standing, codeOf, entryCoded, Keeps, TakenAs, Gathers, GatheredAs, PutsTiles, PutsMap, HasEntries, DrawsTile, DrawsStrip, Draws, stripOf, lineOf, PutsLines};
+ghost use Rattle.picture.specs.Inner.{askedSays, HasTile, standing, codeOf, entryCoded, Keeps, TakenAs, Gathers, GatheredAs, PutsTiles, PutsMap, HasEntries, DrawsTile, DrawsStrip, Draws, stripOf, pixelLine, PutsLines};
 
 // What a picture is converted by. Its size is counted in tiles.
 pub struct Settings {
@@ -143,9 +144,9 @@ fn most_tiles(m: Mode) -> usize
 }
 
 // How many tiles a picture may have, in a tile buffer of so many bytes.
-fn room_of(settings: Settings, len: usize) -> usize
+fn picture_room(settings: Settings, len: usize) -> usize
     requires { ⌜ (settings .mode < 16) × (0 < settings .depth) × (settings .depth ≤ 8) ⌝ }
-    ensures { λ r. ⌜ r ≡ roomOf settings len ⌝ }
+    ensures { λ r. ⌜ r ≡ pictureRoom settings len ⌝ }
 {
     let most = words::least(
         most_tiles(Mode(settings.mode)),
@@ -158,7 +159,7 @@ fn room_of(settings: Settings, len: usize) -> usize
 }
 
 // Eight pixels, from place from on, cut to the depth, from place at of out on.
-fn put_row(depth: u32, pixels: &[u8], from: usize, out: &mut [u8], at: usize)
+fn put_eight(depth: u32, pixels: &[u8], from: usize, out: &mut [u8], at: usize)
     requires { ⌜ (depth ≤ 8) × (from + 8 ≤ length (now pixels)) × (at + 8 ≤ length (now out)) ⌝ }
     ensures { λ _. ⌜ now (out .exit) ≡ sets (now (out .entry)) at (each 8 (λ x. getD (now (pixels .entry)) (from + x) 0 % 2 ^ depth ∷ [])) ⌝ }
 {
@@ -179,7 +180,7 @@ fn take_tile(depth: u32, pixels: &[u8], columns: usize, i: usize) -> [u8; 64]
     let corner = i / columns * 8 * line + i % columns * 8;
     let mut y = 0;
     while y < 8 {
-        put_row(depth, pixels, corner + y * line, &mut tile, y * 8);
+        put_eight(depth, pixels, corner + y * line, &mut tile, y * 8);
         y += 1;
     }
     tile
@@ -195,7 +196,7 @@ fn is_found(found: Found) -> bool
 }
 
 // Whether a tile of which this was found is not stored.
-fn is_dropped(discard: bool, found: Found) -> bool
+fn is_discarded(discard: bool, found: Found) -> bool
     ensures { λ r. ⌜ r ≡ (discard && isFound found) ⌝ }
 {
     if !discard {
@@ -246,7 +247,7 @@ fn keep_tile(
 {
     let key = index::key(tile, flips);
     let found = index::find(store, keys, heads, next, count, tile, key, flips);
-    if is_dropped(discard, found) {
+    if is_discarded(discard, found) {
         return Taken::Kept(count, code_of(found, count));
     }
     if room <= count {
@@ -367,7 +368,7 @@ pub fn convert(settings: Settings, pixels: &[u8], tiles: &mut [u8], map: &mut [u
     }
     let mut store = [0u8; 262144];
     let mut codes = [0u16; 4096];
-    let room = room_of(settings, tiles.len());
+    let room = picture_room(settings, tiles.len());
     let Gathered::Count(count) = gather(settings, pixels, room, &mut store, &mut codes) else {
         return no_picture(12);
     };
@@ -494,11 +495,11 @@ fn draw_strip(
 // One line of the pixels of a row of tiles.
 fn put_line(strip: &[u8], columns: usize, y: usize, out: &mut [u8], at: usize)
     requires { ⌜ (y < 8) × PutsLines (now strip) columns 1 (now out) at ⌝ }
-    ensures { λ _. ⌜ now (out .exit) ≡ sets (now (out .entry)) at (lineOf (now (strip .entry)) columns y) ⌝ }
+    ensures { λ _. ⌜ now (out .exit) ≡ sets (now (out .entry)) at (pixelLine (now (strip .entry)) columns y) ⌝ }
 {
     let mut x = 0;
     while x < columns {
-        put_row(8, strip, x * 64 + y * 8, out, at + x * 8);
+        put_eight(8, strip, x * 64 + y * 8, out, at + x * 8);
         x += 1;
     }
 }
@@ -506,7 +507,7 @@ fn put_line(strip: &[u8], columns: usize, y: usize, out: &mut [u8], at: usize)
 // Its eight lines.
 fn put_lines(strip: &[u8], columns: usize, out: &mut [u8], at: usize)
     requires { ⌜ PutsLines (now strip) columns 8 (now out) at ⌝ }
-    ensures { λ _. ⌜ now (out .exit) ≡ sets (now (out .entry)) at (each 8 (lineOf (now (strip .entry)) columns)) ⌝ }
+    ensures { λ _. ⌜ now (out .exit) ≡ sets (now (out .entry)) at (each 8 (pixelLine (now (strip .entry)) columns)) ⌝ }
 {
     let mut y = 0;
     while y < 8 {

@@ -14,7 +14,7 @@ use borrow.Author.Tests.{lt-ltb, le-ltb, ltb-true, ltb-false, eqb-true, eqb-fals
 use Rattle.words.specs.Bytes.{bit, same}
 use Rattle.words.proofs.Bytes.{same-eq}
 use Rattle.words.proofs.Loops.{all-at}
-use Rattle.mode.specs.Table.{numbered}
+use Rattle.mode.specs.Table.{modeOf}
 use Rattle.mode.specs.Names.{nameOf, namedFrom, modeNamed}
 use Rattle.mode.specs.declared.Mode.{Mode}
 use Rattle.mode.specs.declared.Named.{Named}
@@ -132,7 +132,7 @@ number-only (b ∷ bs) v e =
 true-T : (t : Bool) → t ≡ true → T t
 true-T t e = subst T (sym e) tt
 
-name-case : (s : List ℕ) (m : ℕ) (c : Mode) (more : Named) (t : Bool) → same s (nameOf m) ≡ t → (more ≡ Console c → s ≡ nameOf (c .0)) → cond t (Console (numbered m)) more ≡ Console c → s ≡ nameOf (c .0)
+name-case : (s : List ℕ) (m : ℕ) (c : Mode) (more : Named) (t : Bool) → same s (nameOf m) ≡ t → (more ≡ Console c → s ≡ nameOf (c .0)) → cond t (Console (modeOf m)) more ≡ Console c → s ≡ nameOf (c .0)
 name-case s m c more true h ih e =
     let here : m ≡ c .0 = cc in
     same-eq s (nameOf m) (true-T (same s (nameOf m)) h) ∙ ap nameOf here

@@ -12,7 +12,7 @@ use lib.ListN.{length, getD, set, take, drop, replicate, length-drop, length-set
 use lib.Seq.{getD-set-same, getD-set-other}
 use borrow.Author.Tests.{ltb-true, leb-true, eqb-true}
 use Rattle.words.specs.Bytes.{same}
-use Rattle.mode.specs.Table.{numbered}
+use Rattle.mode.specs.Table.{modeOf}
 use Rattle.mode.specs.Names.{nameOf, namedFrom, modeNamed}
 use Rattle.mode.specs.declared.Mode.{Mode}
 use Rattle.mode.specs.declared.Named.{Named}
@@ -43,7 +43,7 @@ never-read e =
     omega arith
 
 -- a name's mode is one of the sixteen
-named-case : (s : List ℕ) (m k : ℕ) (c : Mode) (b : Bool) → (namedFrom s (m + 1) k ≡ Console c → c .0 < m + 1 + k) → cond b (Console (numbered m)) (namedFrom s (m + 1) k) ≡ Console c → c .0 < m + suc k
+named-case : (s : List ℕ) (m k : ℕ) (c : Mode) (b : Bool) → (namedFrom s (m + 1) k ≡ Console c → c .0 < m + 1 + k) → cond b (Console (modeOf m)) (namedFrom s (m + 1) k) ≡ Console c → c .0 < m + suc k
 named-case s m k c true ih e =
     let here : m ≡ c .0 = cc in
     omega arith

@@ -21,7 +21,7 @@ use Rattle.picture.specs.declared.Picture.{Picture}
 use Rattle.sheet.specs.Keys.{keyOf, lineOf}
 use Rattle.sheet.specs.Numbers.{digitsOf, decimal}
 use Rattle.sheet.specs.Report.{reportKeys, numberLine, reportText, refusedText}
-use Rattle.sheet.specs.Inner.{Kept, Holds, textIn, Puts}
+use Rattle.sheet.specs.Inner.{IsText, Holds, textIn, Puts}
 use Rattle.sheet.specs.Program.{fully, Ran}
 use Rattle.sheet.specs.declared.Text.{Text}
 
@@ -51,7 +51,7 @@ pub paste-whole : (s l : List ℕ) (at i : ℕ) → i ≡ length s → at + leng
 paste-whole s l at i e h = rw (e, take-length) (sym (sets-eq s l at h))
 
 -- a text's length
-pub text-length : (t : Text) → Kept t → length (textIn t) ≡ t .to - t .from
+pub text-length : (t : Text) → IsText t → length (textIn t) ≡ t .to - t .from
 text-length t k = simp (length-take, length-drop) (omega arith)
 
 -- one digit more, and the last

@@ -13,13 +13,13 @@ use Rattle.sheet.specs.declared.Text.{Text}
 abbrev pub textIn : Text → List ℕ
 textIn t = take (t .to - t .from) (drop (t .from) (t .bytes))
 
-pub record Kept (t : Text) : Type 0 where
+pub record IsText (t : Text) : Type 0 where
   pub size : length (t .bytes) ≡ 10
   pub order : t .from ≤ t .to
   pub end : t .to ≤ 10
 
 pub record Holds (t : Text) (text : List ℕ) : Type 0 where
-  pub kept : Kept t
+  pub kept : IsText t
   pub content : textIn t ≡ text
 
 -- Bytes put from a place on: where they end, and all that is lent.

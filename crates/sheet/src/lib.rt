@@ -13,7 +13,7 @@ ghost use Rattle.sheet.specs.Keys.{keyOf, lineOf};
 ghost use Rattle.sheet.specs.Numbers.{decimal, digitsFrom, numberIn, atMost};
 ghost use Rattle.sheet.specs.Sheet.{modeTold, textSays, lineSays, lineLength, settingsOf, linesIn, sheetIn};
 ghost use Rattle.sheet.specs.Report.{numberLine, reportText, refusedText};
-ghost use Rattle.sheet.specs.Inner.{Kept, Holds, textIn, Puts, Tellable, Reportable};
+ghost use Rattle.sheet.specs.Inner.{IsText, Holds, textIn, Puts, Tellable, Reportable};
 ghost use Rattle.sheet.specs.Program.{pictureSays, pictureTells, numberOf, textOf, Ran};
 
 // Each key with its `=`, zeros after it to ten bytes, and its length: those of the sheet's eight lines in order, then those of the report alone.
@@ -291,7 +291,7 @@ fn put(out: &mut [u8], at: usize, s: &[u8]) -> usize
 }
 
 fn put_text(out: &mut [u8], at: usize, t: Text) -> usize
-    requires { ⌜ Kept t × (at + 10 ≤ length (now out)) ⌝ }
+    requires { ⌜ IsText t × (at + 10 ≤ length (now out)) ⌝ }
     ensures { λ r. ⌜ Puts (textIn t) at (now (out .entry)) r (now (out .exit)) × (r ≤ at + 10) ⌝ }
 {
     let bytes = t.bytes;
@@ -302,7 +302,7 @@ fn put_text(out: &mut [u8], at: usize, t: Text) -> usize
 
 // A line: its key, the text and a newline.
 fn put_line(out: &mut [u8], at: usize, k: usize, t: Text) -> usize
-    requires { ⌜ (k < 13) × Kept t × (at + 21 ≤ length (now out)) ⌝ }
+    requires { ⌜ (k < 13) × IsText t × (at + 21 ≤ length (now out)) ⌝ }
     ensures { λ r. ⌜ Puts (lineOf k (textIn t)) at (now (out .entry)) r (now (out .exit)) × (r ≤ at + 21) ⌝ }
 {
     let text = put_text(out, at, key(k));

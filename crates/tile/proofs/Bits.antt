@@ -93,8 +93,8 @@ unfolding fromBits
 rising-none h = record { upto = omega arith; is = refl; small = h }
 
 -- there is room for one more bit of a byte
-pub rising-room : {w n v : ℕ} {f : ℕ → ℕ} → Rising w f n v → n < w → w ≤ 8 → v < 128
-rising-room {w} {n} {v} {f} h l m =
+pub rising-space : {w n v : ℕ} {f : ℕ → ℕ} → Rising w f n v → n < w → w ≤ 8 → v < 128
+rising-space {w} {n} {v} {f} h l m =
     let below : fromBits n (w - n) f < 2 ^ 7 = lt-of-lt-of-le (bits-lt n (w - n) f (h .small)) (pow-mono {i = n} {j = 7} (omega arith)) in
     omega (arith, h .is)
 

@@ -10,7 +10,7 @@ use lib.Dec.{T, ltb, eqb}
 use lib.ListN.{length, getD, take, drop}
 use lib.Seq.{sets, take-all}
 use borrow.Author.Tests.{lt-leb, ltb-false, leb-false, eqb-true, not-false, lt-ltb, le-ltb, eq-eqb, ne-eqb}
-use Rattle.words.specs.Answers.{_when_, lowest, overwrite}
+use Rattle.words.specs.Answers.{_when_, firstApplying, overwrite}
 use Rattle.words.specs.Loops.{some}
 use Rattle.words.proofs.Answers.{all-passed, not-given}
 use Rattle.words.proofs.Items.{none-at}
@@ -25,17 +25,17 @@ use Rattle.tile.proofs.Native.{Native, fitting}
 
 -- ---- checks after checks: the first number that is given, or what those after say
 
-first-of : (ns ms : List ℕ) → (lowest ns ≡ 0 → ⊥) → lowest ns ≡ lowest (ns ++ ms)
+first-of : (ns ms : List ℕ) → (firstApplying ns ≡ 0 → ⊥) → firstApplying ns ≡ firstApplying (ns ++ ms)
 first-of [] ms h = absurd (h refl)
 first-of (zero ∷ ns) ms h = first-of ns ms h
 first-of (suc n ∷ ns) ms h = refl
 
-rest-of : (ns ms : List ℕ) → lowest ns ≡ 0 → lowest (ns ++ ms) ≡ lowest ms
+rest-of : (ns ms : List ℕ) → firstApplying ns ≡ 0 → firstApplying (ns ++ ms) ≡ firstApplying ms
 rest-of [] ms z = refl
 rest-of (zero ∷ ns) ms z = rest-of ns ms z
 rest-of (suc n ∷ ns) ms z = absurd (suc-ne-zero n z)
 
-all-first : (ns ms : List ℕ) → lowest (ns ++ ms) ≡ 0 → lowest ns ≡ 0
+all-first : (ns ms : List ℕ) → firstApplying (ns ++ ms) ≡ 0 → firstApplying ns ≡ 0
 all-first [] ms z = refl
 all-first (zero ∷ ns) ms z = all-first ns ms z
 all-first (suc n ∷ ns) ms z = z
@@ -63,52 +63,52 @@ native-of m d w h z =
 
 -- ---- packing
 
-module _ (m d w h : ℕ) (pixels : List ℕ) (room : ℕ) where
+module _ (m d w h : ℕ) (pixels : List ℕ) (space : ℕ) where
   abbrev packRest : List ℕ
-  packRest = 7 when not (eqb (length pixels) (w * h)) ∷ 8 when some (length pixels) (tooLarge d pixels) ∷ 11 when ltb room (w * h * d / 8) ∷ []
+  packRest = 7 when not (eqb (length pixels) (w * h)) ∷ 8 when some (length pixels) (tooLarge d pixels) ∷ 11 when ltb space (w * h * d / 8) ∷ []
 
-  pub pack-first : (n : ℕ) → n ≡ tileSays m d w h → (n ≡ 0 → ⊥) → n ≡ packSays m d w h pixels room
+  pub pack-first : (n : ℕ) → n ≡ tileSays m d w h → (n ≡ 0 → ⊥) → n ≡ packSays m d w h pixels space
   unfolding tileSays packSays
   pack-first n e f = e ∙ first-of (tileChecks m d w h) packRest (λ z. f (e ∙ z))
 
   module _ (z : tileSays m d w h ≡ 0) where
-    pack-rest : packSays m d w h pixels room ≡ lowest packRest
+    pack-rest : packSays m d w h pixels space ≡ firstApplying packRest
     unfolding tileSays packSays
     pack-rest = rest-of (tileChecks m d w h) packRest z
 
-    pub pack-7 : (length pixels ≡ w * h → ⊥) → 7 ≡ packSays m d w h pixels room
+    pub pack-7 : (length pixels ≡ w * h → ⊥) → 7 ≡ packSays m d w h pixels space
     pack-7 f = rw (pack-rest, ne-eqb _ _ f)
 
-    pub pack-8 : length pixels ≡ w * h → some (length pixels) (tooLarge d pixels) ≡ true → 8 ≡ packSays m d w h pixels room
+    pub pack-8 : length pixels ≡ w * h → some (length pixels) (tooLarge d pixels) ≡ true → 8 ≡ packSays m d w h pixels space
     pack-8 len large = rw (pack-rest, eq-eqb _ _ len, large)
 
-    pub pack-11 : length pixels ≡ w * h → some (length pixels) (tooLarge d pixels) ≡ false → room < w * h * d / 8 → 11 ≡ packSays m d w h pixels room
+    pub pack-11 : length pixels ≡ w * h → some (length pixels) (tooLarge d pixels) ≡ false → space < w * h * d / 8 → 11 ≡ packSays m d w h pixels space
     pack-11 len small short = rw (pack-rest, eq-eqb _ _ len, small, lt-ltb _ _ short)
 
-    pub pack-0 : length pixels ≡ w * h → some (length pixels) (tooLarge d pixels) ≡ false → w * h * d / 8 ≤ room → 0 ≡ packSays m d w h pixels room
+    pub pack-0 : length pixels ≡ w * h → some (length pixels) (tooLarge d pixels) ≡ false → w * h * d / 8 ≤ space → 0 ≡ packSays m d w h pixels space
     pack-0 len small fit = rw (pack-rest, eq-eqb _ _ len, small, le-ltb _ _ fit)
 
 -- what is known of a tile that is packed
-pub record Packable (m d w h : ℕ) (pixels : List ℕ) (room : ℕ) : Type 0 where
+pub record Packable (m d w h : ℕ) (pixels : List ℕ) (space : ℕ) : Type 0 where
   pub allowed : tileSays m d w h ≡ 0
   pub native : Native m d w h
   pub whole : length pixels ≡ w * h
   pub small : (i : ℕ) → i < w * h → getD pixels i 0 < 2 ^ d
-  pub fits : w * h * d / 8 ≤ room
+  pub fits : w * h * d / 8 ≤ space
 
-pub packable : (m d w h : ℕ) (pixels : List ℕ) (room : ℕ) → packSays m d w h pixels room ≡ 0 → Packable m d w h pixels room
+pub packable : (m d w h : ℕ) (pixels : List ℕ) (space : ℕ) → packSays m d w h pixels space ≡ 0 → Packable m d w h pixels space
 unfolding tileSays packSays
-packable m d w h pixels room z =
-    let check : (k : ℕ) → getD (packChecks m d w h pixels room) k 0 ≡ 0 = all-passed (packChecks m d w h pixels room) z in
+packable m d w h pixels space z =
+    let check : (k : ℕ) → getD (packChecks m d w h pixels space) k 0 ≡ 0 = all-passed (packChecks m d w h pixels space) z in
     let len : length pixels ≡ w * h = eqb-true (length pixels) (w * h) (passes 6 (eqb (length pixels) (w * h)) (check 3)) in
     let none : some (length pixels) (tooLarge d pixels) ≡ false = not-given 7 (some (length pixels) (tooLarge d pixels)) (check 4) in
-    let tile : tileSays m d w h ≡ 0 = all-first (tileChecks m d w h) (packRest m d w h pixels room) z in
+    let tile : tileSays m d w h ≡ 0 = all-first (tileChecks m d w h) (packRest m d w h pixels space) z in
     record {
       allowed = tile;
       native = native-of m d w h tile;
       whole = len;
       small = λ i l. leb-false (2 ^ d) (getD pixels i 0) (none-at (length pixels) (tooLarge d pixels) none i (rw len l));
-      fits = ltb-false room (w * h * d / 8) (not-given 10 (ltb room (w * h * d / 8)) (check 5));
+      fits = ltb-false space (w * h * d / 8) (not-given 10 (ltb space (w * h * d / 8)) (check 5));
     }
 
 module _ {p : Packing} (m d w h : ℕ) (pixels out : List ℕ) (e : p ≡ packingOf m d w h) (z : packSays m d w h pixels (length out) ≡ 0) where
@@ -117,7 +117,7 @@ module _ {p : Packing} (m d w h : ℕ) (pixels out : List ℕ) (e : p ≡ packin
       let a = packable m d w h pixels (length out) z in
       let f = fitting (a .native) in
       subst (λ (x : Packing). Packs x pixels 0 out 0) (sym e)
-      (record { sound = f .sound; inside = omega (arith, f .pixels, a .whole); room = omega (arith, f .bytes, a .fits) })
+      (record { sound = f .sound; inside = omega (arith, f .pixels, a .whole); space = omega (arith, f .bytes, a .fits) })
 
   pub pack-length : byteCount p ≡ length (packed m d w h pixels)
   pack-length = ap byteCount e ∙ sym (length-spread (layoutIn (packingOf m d w h) .bytes) pixels)
@@ -133,45 +133,45 @@ module _ {p : Packing} (m d w h : ℕ) (pixels out : List ℕ) (e : p ≡ packin
 
 -- ---- unpacking
 
-module _ (m d w h len room : ℕ) where
+module _ (m d w h len space : ℕ) where
   abbrev unpackRest : List ℕ
-  unpackRest = 7 when not (eqb len (w * h * d / 8)) ∷ 11 when ltb room (w * h) ∷ []
+  unpackRest = 7 when not (eqb len (w * h * d / 8)) ∷ 11 when ltb space (w * h) ∷ []
 
-  pub unpack-first : (n : ℕ) → n ≡ tileSays m d w h → (n ≡ 0 → ⊥) → n ≡ unpackSays m d w h len room
+  pub unpack-first : (n : ℕ) → n ≡ tileSays m d w h → (n ≡ 0 → ⊥) → n ≡ unpackSays m d w h len space
   unfolding tileSays unpackSays
   unpack-first n e f = e ∙ first-of (tileChecks m d w h) unpackRest (λ z. f (e ∙ z))
 
   module _ (z : tileSays m d w h ≡ 0) where
-    unpack-rest : unpackSays m d w h len room ≡ lowest unpackRest
+    unpack-rest : unpackSays m d w h len space ≡ firstApplying unpackRest
     unfolding tileSays unpackSays
     unpack-rest = rest-of (tileChecks m d w h) unpackRest z
 
-    pub unpack-7 : (len ≡ w * h * d / 8 → ⊥) → 7 ≡ unpackSays m d w h len room
+    pub unpack-7 : (len ≡ w * h * d / 8 → ⊥) → 7 ≡ unpackSays m d w h len space
     unpack-7 f = rw (unpack-rest, ne-eqb _ _ f)
 
-    pub unpack-11 : len ≡ w * h * d / 8 → room < w * h → 11 ≡ unpackSays m d w h len room
+    pub unpack-11 : len ≡ w * h * d / 8 → space < w * h → 11 ≡ unpackSays m d w h len space
     unpack-11 e short = rw (unpack-rest, eq-eqb _ _ e, lt-ltb _ _ short)
 
-    pub unpack-0 : len ≡ w * h * d / 8 → w * h ≤ room → 0 ≡ unpackSays m d w h len room
+    pub unpack-0 : len ≡ w * h * d / 8 → w * h ≤ space → 0 ≡ unpackSays m d w h len space
     unpack-0 e fit = rw (unpack-rest, eq-eqb _ _ e, le-ltb _ _ fit)
 
 -- what is known of a tile that is unpacked
-pub record Unpackable (m d w h len room : ℕ) : Type 0 where
+pub record Unpackable (m d w h len space : ℕ) : Type 0 where
   pub allowed : tileSays m d w h ≡ 0
   pub native : Native m d w h
   pub whole : len ≡ w * h * d / 8
-  pub fits : w * h ≤ room
+  pub fits : w * h ≤ space
 
-pub unpackable : (m d w h len room : ℕ) → unpackSays m d w h len room ≡ 0 → Unpackable m d w h len room
+pub unpackable : (m d w h len space : ℕ) → unpackSays m d w h len space ≡ 0 → Unpackable m d w h len space
 unfolding tileSays unpackSays
-unpackable m d w h len room z =
-    let check : (k : ℕ) → getD (unpackChecks m d w h len room) k 0 ≡ 0 = all-passed (unpackChecks m d w h len room) z in
-    let tile : tileSays m d w h ≡ 0 = all-first (tileChecks m d w h) (unpackRest m d w h len room) z in
+unpackable m d w h len space z =
+    let check : (k : ℕ) → getD (unpackChecks m d w h len space) k 0 ≡ 0 = all-passed (unpackChecks m d w h len space) z in
+    let tile : tileSays m d w h ≡ 0 = all-first (tileChecks m d w h) (unpackRest m d w h len space) z in
     record {
       allowed = tile;
       native = native-of m d w h tile;
       whole = eqb-true len (w * h * d / 8) (passes 6 (eqb len (w * h * d / 8)) (check 3));
-      fits = ltb-false room (w * h) (not-given 10 (ltb room (w * h)) (check 4));
+      fits = ltb-false space (w * h) (not-given 10 (ltb space (w * h)) (check 4));
     }
 
 module _ {p : Packing} (m d w h : ℕ) (bytes out : List ℕ) (e : p ≡ packingOf m d w h) (z : unpackSays m d w h (length bytes) (length out) ≡ 0) where
@@ -180,7 +180,7 @@ module _ {p : Packing} (m d w h : ℕ) (bytes out : List ℕ) (e : p ≡ packing
       let a = unpackable m d w h (length bytes) (length out) z in
       let f = fitting (a .native) in
       subst (λ (x : Packing). Unpacks x bytes 0 out 0) (sym e)
-      (record { sound = f .sound; inside = omega (arith, f .bytes, a .whole); room = omega (arith, f .pixels, a .fits) })
+      (record { sound = f .sound; inside = omega (arith, f .bytes, a .whole); space = omega (arith, f .pixels, a .fits) })
 
   pub unpack-length : pixelCount p ≡ length (unpacked m d w h bytes)
   unpack-length = ap pixelCount e ∙ sym (length-spread (layoutIn (packingOf m d w h) .pixels) bytes)

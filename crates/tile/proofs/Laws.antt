@@ -86,23 +86,23 @@ module _ (m d w h : ℕ) (z : tileSays m d w h ≡ 0) where
   bytes-back bytes len b = bytes-back-in (packingOf m d w h) (fits .sound) bytes (len ∙ sym (fits .bytes)) b
 
   -- what was unpacked can be packed, and what was packed unpacked, where there is room
-  pub packs-unpacked : (bytes : List ℕ) (room : ℕ) → w * h * d / 8 ≤ room → packSays m d w h (unpacked m d w h bytes) room ≡ 0
-  packs-unpacked bytes room fit =
+  pub packs-unpacked : (bytes : List ℕ) (space : ℕ) → w * h * d / 8 ≤ space → packSays m d w h (unpacked m d w h bytes) space ≡ 0
+  packs-unpacked bytes space fit =
       let pixels = unpacked m d w h bytes in
-      sym (pack-0 m d w h pixels room z (unpacked-length bytes) (all-small (length pixels) d pixels (λ i l. unpacked-small bytes i (rw (unpacked-length bytes) at l))) fit)
+      sym (pack-0 m d w h pixels space z (unpacked-length bytes) (all-small (length pixels) d pixels (λ i l. unpacked-small bytes i (rw (unpacked-length bytes) at l))) fit)
 
-  pub unpacks-packed : (pixels : List ℕ) (room : ℕ) → w * h ≤ room → unpackSays m d w h (length (packed m d w h pixels)) room ≡ 0
-  unpacks-packed pixels room fit = sym (unpack-0 m d w h (length (packed m d w h pixels)) room z (packed-length pixels) fit)
+  pub unpacks-packed : (pixels : List ℕ) (space : ℕ) → w * h ≤ space → unpackSays m d w h (length (packed m d w h pixels)) space ≡ 0
+  unpacks-packed pixels space fit = sym (unpack-0 m d w h (length (packed m d w h pixels)) space z (packed-length pixels) fit)
 
 -- ---- where nothing was refused
 
 -- "Ours inverts packing."
-pub pixels-return : (m d w h : ℕ) (pixels : List ℕ) (room : ℕ) → packSays m d w h pixels room ≡ 0 → unpacked m d w h (packed m d w h pixels) ≡ pixels
-pixels-return m d w h pixels room z =
-    let a = packable m d w h pixels room z in
+pub pixels-return : (m d w h : ℕ) (pixels : List ℕ) (space : ℕ) → packSays m d w h pixels space ≡ 0 → unpacked m d w h (packed m d w h pixels) ≡ pixels
+pixels-return m d w h pixels space z =
+    let a = packable m d w h pixels space z in
     pixels-back m d w h (a .allowed) pixels (a .whole) (a .small)
 
-pub bytes-return : (m d w h : ℕ) (bytes : List ℕ) (room : ℕ) → unpackSays m d w h (length bytes) room ≡ 0 → T (areBytes bytes) → packed m d w h (unpacked m d w h bytes) ≡ bytes
-bytes-return m d w h bytes room z b =
-    let a = unpackable m d w h (length bytes) room z in
+pub bytes-return : (m d w h : ℕ) (bytes : List ℕ) (space : ℕ) → unpackSays m d w h (length bytes) space ≡ 0 → T (areBytes bytes) → packed m d w h (unpacked m d w h bytes) ≡ bytes
+bytes-return m d w h bytes space z b =
+    let a = unpackable m d w h (length bytes) space z in
     bytes-back m d w h (a .allowed) bytes (a .whole) b

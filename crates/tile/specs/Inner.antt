@@ -25,12 +25,12 @@ isPacking (Sprite w h) = oneOf w (16 ∷ 32 ∷ []) && oneOf h (16 ∷ 32 ∷ 64
 pub record Packs (p : Packing) (pixels : List ℕ) (from : ℕ) (out : List ℕ) (at : ℕ) : Type 0 where
   pub sound : T (isPacking p)
   pub inside : from + pixelCount p ≤ length pixels
-  pub room : at + byteCount p ≤ length out
+  pub space : at + byteCount p ≤ length out
 
 pub record Unpacks (p : Packing) (bytes : List ℕ) (from : ℕ) (out : List ℕ) (at : ℕ) : Type 0 where
   pub sound : T (isPacking p)
   pub inside : from + byteCount p ≤ length bytes
-  pub room : at + pixelCount p ≤ length out
+  pub space : at + pixelCount p ≤ length out
 
 -- Byte k of a tile's bytes, and pixel i of its pixels.
 pub record HasByte (p : Packing) (pixels : List ℕ) (k : ℕ) : Type 0 where

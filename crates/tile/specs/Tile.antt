@@ -5,7 +5,7 @@ use mathlib.Core.List.{List, [], _∷_, _++_}
 use Prim.Native.Nat.{ℕ, _*_, _/_, _^_}
 use lib.Dec.{ltb, leb, eqb}
 use lib.ListN.{length, getD}
-use Rattle.words.specs.Answers.{_when_, lowest}
+use Rattle.words.specs.Answers.{_when_, firstApplying}
 use Rattle.words.specs.Loops.{some}
 use Rattle.mode.specs.Table.{oneOf, hasDepth, pce-sprite}
 use Rattle.tile.specs.Layout.{Layout, spread}
@@ -81,21 +81,21 @@ abbrev pub tileChecks : ℕ → ℕ → ℕ → ℕ → List ℕ
 tileChecks m d w h = 1 when ltb 15 m ∷ 3 when not (hasDepth m d) ∷ 4 when not (isNative m w h) ∷ []
 
 abbrev pub packChecks : ℕ → ℕ → ℕ → ℕ → List ℕ → ℕ → List ℕ
-packChecks m d w h pixels room =
+packChecks m d w h pixels space =
     tileChecks m d w h
     ++ 7 when not (eqb (length pixels) (w * h))
     ∷ 8 when some (length pixels) (tooLarge d pixels)
-    ∷ 11 when ltb room (w * h * d / 8)
+    ∷ 11 when ltb space (w * h * d / 8)
     ∷ []
 
 abbrev pub unpackChecks : ℕ → ℕ → ℕ → ℕ → ℕ → ℕ → List ℕ
-unpackChecks m d w h len room = tileChecks m d w h ++ 7 when not (eqb len (w * h * d / 8)) ∷ 11 when ltb room (w * h) ∷ []
+unpackChecks m d w h len space = tileChecks m d w h ++ 7 when not (eqb len (w * h * d / 8)) ∷ 11 when ltb space (w * h) ∷ []
 
 unfoldable pub tileSays : ℕ → ℕ → ℕ → ℕ → ℕ
-tileSays m d w h = lowest (tileChecks m d w h)
+tileSays m d w h = firstApplying (tileChecks m d w h)
 
 unfoldable pub packSays : ℕ → ℕ → ℕ → ℕ → List ℕ → ℕ → ℕ
-packSays m d w h pixels room = lowest (packChecks m d w h pixels room)
+packSays m d w h pixels space = firstApplying (packChecks m d w h pixels space)
 
 unfoldable pub unpackSays : ℕ → ℕ → ℕ → ℕ → ℕ → ℕ → ℕ
-unpackSays m d w h len room = lowest (unpackChecks m d w h len room)
+unpackSays m d w h len space = firstApplying (unpackChecks m d w h len space)

@@ -436,8 +436,8 @@ fn some_too_large(depth: u32, pixels: &[u8]) -> bool
     false
 }
 
-fn pack_says(mode: u32, depth: u32, width: u32, height: u32, pixels: &[u8], room: usize) -> u32
-    ensures { λ r. ⌜ r ≡ packSays mode depth width height (now (pixels .entry)) room ⌝ }
+fn pack_says(mode: u32, depth: u32, width: u32, height: u32, pixels: &[u8], space: usize) -> u32
+    ensures { λ r. ⌜ r ≡ packSays mode depth width height (now (pixels .entry)) space ⌝ }
 {
     let refusal = tile_says(mode, depth, width, height);
     if refusal != 0 {
@@ -450,7 +450,7 @@ fn pack_says(mode: u32, depth: u32, width: u32, height: u32, pixels: &[u8], room
     if some_too_large(depth, pixels) {
         return 8;
     }
-    if room < (size * depth / 8) as usize {
+    if space < (size * depth / 8) as usize {
         return 11;
     }
     0
@@ -479,8 +479,8 @@ pub fn pack_tile(
     }
 }
 
-fn unpack_says(mode: u32, depth: u32, width: u32, height: u32, len: usize, room: usize) -> u32
-    ensures { λ r. ⌜ r ≡ unpackSays mode depth width height len room ⌝ }
+fn unpack_says(mode: u32, depth: u32, width: u32, height: u32, len: usize, space: usize) -> u32
+    ensures { λ r. ⌜ r ≡ unpackSays mode depth width height len space ⌝ }
 {
     let refusal = tile_says(mode, depth, width, height);
     if refusal != 0 {
@@ -490,7 +490,7 @@ fn unpack_says(mode: u32, depth: u32, width: u32, height: u32, len: usize, room:
     if len != (size * depth / 8) as usize {
         return 7;
     }
-    if room < size as usize {
+    if space < size as usize {
         return 11;
     }
     0

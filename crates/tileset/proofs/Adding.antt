@@ -9,10 +9,10 @@ use lib.Dec.{leb, eqb}
 use lib.ListN.{length}
 use lib.Seq.{sets}
 use borrow.Author.Tests.{le-leb, lt-leb}
-use Rattle.words.specs.Answers.{_when_, lowest, unless}
+use Rattle.words.specs.Answers.{_when_, firstApplying, unless}
 use Rattle.words.proofs.Answers.{first-given, either-way, when-refused, when-done}
 use Rattle.flip.specs.declared.Flip.{Flip}
-use Rattle.tileset.specs.Sets.{area, roomIn, lookSays, answered}
+use Rattle.tileset.specs.Sets.{area, roomIn, lookSays, setAnswer}
 use Rattle.tileset.specs.Finding.{cutTo, foundIn, isFound}
 use Rattle.tileset.specs.Adding.{discards, oneStored, oneDiscarded, addSays, added, storeWith, Adds}
 use Rattle.tileset.specs.declared.Set.{Set}
@@ -22,11 +22,11 @@ use Rattle.tileset.specs.declared.Found.the-variants.{At, Nothing}
 use Rattle.tileset.proofs.Says.{next-given, refused-set, done-set}
 
 -- a last check that applies, or none
-last-12 : (b : Bool) → lowest (12 when b ∷ 0 ∷ []) ≡ 12 when b
+last-12 : (b : Bool) → firstApplying (12 when b ∷ 0 ∷ []) ≡ 12 when b
 last-12 true = refl
 last-12 false = refl
 
-last-13 : (b : Bool) → lowest (13 when b ∷ []) ≡ 13 when b
+last-13 : (b : Bool) → firstApplying (13 when b ∷ []) ≡ 13 when b
 last-13 true = refl
 last-13 false = refl
 
@@ -58,31 +58,31 @@ module _ (z : Set) (s p : List ℕ) where
   add-refused n e h = first-given n (12 when (not (discards z s p) && ends) ∷ 13 when (discards z s p && full) ∷ []) e h
 
   module _ (fine : looks ≡ 0) where
-    says-rest : addSays z s p ≡ lowest (12 when (not (discards z s p) && ends) ∷ 13 when (discards z s p && full) ∷ [])
+    says-rest : addSays z s p ≡ firstApplying (12 when (not (discards z s p) && ends) ∷ 13 when (discards z s p && full) ∷ [])
     unfolding addSays
     says-rest = next-given (12 when (not (discards z s p) && ends) ∷ 13 when (discards z s p && full) ∷ []) fine
 
     pub keep-says : discards z s p ≡ false → addSays z s p ≡ 12 when ends
-    keep-says e = says-rest ∙ ap (λ (b : Bool). lowest (12 when (not b && ends) ∷ 13 when (b && full) ∷ [])) e ∙ last-12 ends
+    keep-says e = says-rest ∙ ap (λ (b : Bool). firstApplying (12 when (not b && ends) ∷ 13 when (b && full) ∷ [])) e ∙ last-12 ends
 
-    pub drop-says : discards z s p ≡ true → addSays z s p ≡ 13 when full
-    drop-says e = says-rest ∙ ap (λ (b : Bool). lowest (12 when (not b && ends) ∷ 13 when (b && full) ∷ [])) e ∙ last-13 full
+    pub discard-says : discards z s p ≡ true → addSays z s p ≡ 13 when full
+    discard-says e = says-rest ∙ ap (λ (b : Bool). firstApplying (12 when (not b && ends) ∷ 13 when (b && full) ∷ [])) e ∙ last-13 full
 
   pub keep-set : discards z s p ≡ false → added z s p ≡ oneStored z
   unfolding added
   keep-set e = ap (λ (b : Bool). cond b (oneDiscarded z) (oneStored z)) e
 
-  pub drop-set : discards z s p ≡ true → added z s p ≡ oneDiscarded z
+  pub discard-set : discards z s p ≡ true → added z s p ≡ oneDiscarded z
   unfolding added
-  drop-set e = ap (λ (b : Bool). cond b (oneDiscarded z) (oneStored z)) e
+  discard-set e = ap (λ (b : Bool). cond b (oneDiscarded z) (oneStored z)) e
 
   pub keep-store : discards z s p ≡ false → storeWith z s p ≡ put
   unfolding storeWith
   keep-store e = ap (λ (b : Bool). cond b s put) e
 
-  pub drop-store : discards z s p ≡ true → storeWith z s p ≡ s
+  pub discard-store : discards z s p ≡ true → storeWith z s p ≡ s
   unfolding storeWith
-  drop-store e = ap (λ (b : Bool). cond b s put) e
+  discard-store e = ap (λ (b : Bool). cond b s put) e
 
   -- ---- the promise of adding
 
@@ -98,15 +98,15 @@ module _ (z : Set) (s p : List ℕ) where
     pub keep-add : looks ≡ 0 → discards z s p ≡ false → Adds (12 when ends) z (oneStored z) s put r after → Adds (addSays z s p) z (added z s p) s (storeWith z s p) r after
     keep-add fine e k =
         record {
-          answer = k .answer ∙ ap (λ (n : ℕ). answered n (oneStored z) z) (sym (keep-says fine e)) ∙ ap (λ (x : Set). answered (addSays z s p) x z) (sym (keep-set e));
+          answer = k .answer ∙ ap (λ (n : ℕ). setAnswer n (oneStored z) z) (sym (keep-says fine e)) ∙ ap (λ (x : Set). setAnswer (addSays z s p) x z) (sym (keep-set e));
           lent = k .lent ∙ ap (λ (n : ℕ). unless n put s) (sym (keep-says fine e)) ∙ ap (λ (l : List ℕ). unless (addSays z s p) l s) (sym (keep-store e));
         }
 
-    pub drop-add : looks ≡ 0 → discards z s p ≡ true → r ≡ answered (13 when full) (oneDiscarded z) z → after ≡ s → Adds (addSays z s p) z (added z s p) s (storeWith z s p) r after
+    pub drop-add : looks ≡ 0 → discards z s p ≡ true → r ≡ setAnswer (13 when full) (oneDiscarded z) z → after ≡ s → Adds (addSays z s p) z (added z s p) s (storeWith z s p) r after
     drop-add fine e a l =
         record {
-          answer = a ∙ ap (λ (n : ℕ). answered n (oneDiscarded z) z) (sym (drop-says fine e)) ∙ ap (λ (x : Set). answered (addSays z s p) x z) (sym (drop-set e));
-          lent = l ∙ sym (either-way (addSays z s p) s) ∙ ap (λ (x : List ℕ). unless (addSays z s p) x s) (sym (drop-store e));
+          answer = a ∙ ap (λ (n : ℕ). setAnswer n (oneDiscarded z) z) (sym (discard-says fine e)) ∙ ap (λ (x : Set). setAnswer (addSays z s p) x z) (sym (discard-set e));
+          lent = l ∙ sym (either-way (addSays z s p) s) ∙ ap (λ (x : List ℕ). unless (addSays z s p) x s) (sym (discard-store e));
         }
 
     -- a tile that is to be stored

@@ -16,11 +16,12 @@ use Rattle.words.proofs.Answers.{all-passed, not-given}
 use Rattle.tileset.specs.Sets.{area, roomIn, lookSays}
 use Rattle.tileset.specs.Finding.{cutTo, foundIn, isFound, Looks}
 use Rattle.tileset.specs.Adding.{discards, oneStored, oneDiscarded, addChecks, addSays, added, storeWith}
-use Rattle.tileset.specs.History.{matchesSome, setAfter, storeAfter, setAtEnd, storeAtEnd, accepted, repeats, tilesOf, Apart}
+use Rattle.tileset.specs.Matched.{matchesSome, Apart}
+use Rattle.tileset.specs.History.{setAfter, storeAfter, setAtEnd, storeAtEnd, accepted, repeats, setTiles}
 use Rattle.tileset.specs.declared.Set.{Set}
 use Rattle.tileset.proofs.Says.{room-left, looks-of}
 use Rattle.tileset.proofs.Stores.{length-cut, tiles-put}
-use Rattle.tileset.proofs.Adding.{keep-off, keep-says, keep-set, keep-store, drop-set, drop-store}
+use Rattle.tileset.proofs.Adding.{keep-off, keep-says, keep-set, keep-store, discard-set, discard-store}
 use Rattle.tileset.proofs.Matched.{look-some, alike-kept, alike-gone, apart-more}
 
 -- ---- stored + discarded = adds answered 0
@@ -51,37 +52,37 @@ module _ (z : Set) (s p : List ℕ) (done : addSays z s p ≡ 0) where
   tile-long : length (cutTo (z .depth) p) ≡ area z
   tile-long = length-cut (z .depth) p ∙ known .whole
 
-  pub found-is : isFound (foundIn z s p) ≡ matchesSome (z .flips) (z .width) (z .height) (tilesOf z s) (cutTo (z .depth) p)
+  pub found-is : isFound (foundIn z s p) ≡ matchesSome (z .flips) (z .width) (z .height) (setTiles z s) (cutTo (z .depth) p)
   unfolding foundIn
-  found-is = look-some (z .flips) (z .width) (z .height) (tilesOf z s) (cutTo (z .depth) p)
+  found-is = look-some (z .flips) (z .width) (z .height) (setTiles z s) (cutTo (z .depth) p)
 
   module _ (e : discards z s p ≡ false) where
     has-room : z .stored < roomIn z (length s)
     has-room =
         leb-false (roomIn z (length s)) (z .stored) (not-given 11 (leb (roomIn z (length s)) (z .stored)) (sym (keep-says z s p fine e) ∙ done))
 
-    kept-tiles : tilesOf (added z s p) (storeWith z s p) ≡ tilesOf z s ++ cutTo (z .depth) p ∷ []
+    kept-tiles : setTiles (added z s p) (storeWith z s p) ≡ setTiles z s ++ cutTo (z .depth) p ∷ []
     kept-tiles =
         let put = sets s (z .stored * area z) (cutTo (z .depth) p) in
-        ap (λ (x : Set). tilesOf x (storeWith z s p)) (keep-set z s p e)
-        ∙ ap (λ (l : List ℕ). tilesOf (oneStored z) l) (keep-store z s p e)
+        ap (λ (x : Set). setTiles x (storeWith z s p)) (keep-set z s p e)
+        ∙ ap (λ (l : List ℕ). setTiles (oneStored z) l) (keep-store z s p e)
         ∙ tiles-put (area z) s (cutTo (z .depth) p) (z .stored)
         (room-left (z .limit) (length s) (area z) (z .stored) (mul-pos (known .some) (known .tall)) has-room) tile-long
 
-  gone-tiles : discards z s p ≡ true → tilesOf (added z s p) (storeWith z s p) ≡ tilesOf z s
+  gone-tiles : discards z s p ≡ true → setTiles (added z s p) (storeWith z s p) ≡ setTiles z s
   gone-tiles e =
-      ap (λ (x : Set). tilesOf x (storeWith z s p)) (drop-set z s p e) ∙ ap (λ (l : List ℕ). tilesOf (oneDiscarded z) l) (drop-store z s p e)
+      ap (λ (x : Set). setTiles x (storeWith z s p)) (discard-set z s p e) ∙ ap (λ (l : List ℕ). setTiles (oneDiscarded z) l) (discard-store z s p e)
 
 -- with discarding on, a tile is discarded exactly where it matches a stored one
-discards-is : (z : Set) (s p : List ℕ) → z .discarding ≡ true → discards z s p ≡ matchesSome (z .flips) (z .width) (z .height) (tilesOf z s) (cutTo (z .depth) p)
+discards-is : (z : Set) (s p : List ℕ) → z .discarding ≡ true → discards z s p ≡ matchesSome (z .flips) (z .width) (z .height) (setTiles z s) (cutTo (z .depth) p)
 unfolding foundIn
 discards-is z s p on =
-    ap (λ (b : Bool). b && isFound (foundIn z s p)) on ∙ look-some (z .flips) (z .width) (z .height) (tilesOf z s) (cutTo (z .depth) p)
+    ap (λ (b : Bool). b && isFound (foundIn z s p)) on ∙ look-some (z .flips) (z .width) (z .height) (setTiles z s) (cutTo (z .depth) p)
 
 -- ---- no two stored tiles match
 
 abbrev SetApart : Set → List ℕ → Type 0
-SetApart z s = Apart (z .flips) (z .width) (z .height) (tilesOf z s)
+SetApart z s = Apart (z .flips) (z .width) (z .height) (setTiles z s)
 
 -- the settings stay
 abbrev Settled : Set → Set → Type 0
@@ -100,18 +101,18 @@ apart-as z x tiles q a = rw (q .0, q .1, q .2) a
 
 one-apart : (z : Set) (s p : List ℕ) (b : Bool) → addSays z s p ≡ 0 → z .discarding ≡ true → discards z s p ≡ b → SetApart z s → SetApart (added z s p) (storeWith z s p)
 one-apart z s p true done on e a =
-    apart-as z (added z s p) (tilesOf (added z s p) (storeWith z s p)) (settled z s p) (rw (gone-tiles z s p done e) a)
+    apart-as z (added z s p) (setTiles (added z s p) (storeWith z s p)) (settled z s p) (rw (gone-tiles z s p done e) a)
 one-apart z s p false done on e a =
-    apart-as z (added z s p) (tilesOf (added z s p) (storeWith z s p)) (settled z s p)
-    (rw (kept-tiles z s p done e) (apart-more (z .flips) (z .width) (z .height) (tilesOf z s) (cutTo (z .depth) p) (sym (discards-is z s p on) ∙ e) a))
+    apart-as z (added z s p) (setTiles (added z s p) (storeWith z s p)) (settled z s p)
+    (rw (kept-tiles z s p done e) (apart-more (z .flips) (z .width) (z .height) (setTiles z s) (cutTo (z .depth) p) (sym (discards-is z s p on) ∙ e) a))
 
 after-apart : (z : Set) (s p : List ℕ) (n : ℕ) → addSays z s p ≡ n → z .discarding ≡ true → SetApart z s → SetApart (unless n (added z s p) z) (unless n (storeWith z s p) s)
 after-apart z s p zero e on a = one-apart z s p (discards z s p) e on refl a
 after-apart z s p (suc n) e on a = a
 
 -- kept by an add, refused or not
-pub add-apart : (z : Set) (s p : List ℕ) → z .discarding ≡ true → Apart (z .flips) (z .width) (z .height) (tilesOf z s)
-    → Apart (setAfter z s p .flips) (setAfter z s p .width) (setAfter z s p .height) (tilesOf (setAfter z s p) (storeAfter z s p))
+pub add-apart : (z : Set) (s p : List ℕ) → z .discarding ≡ true → Apart (z .flips) (z .width) (z .height) (setTiles z s)
+    → Apart (setAfter z s p .flips) (setAfter z s p .width) (setAfter z s p .height) (setTiles (setAfter z s p) (storeAfter z s p))
 add-apart z s p on a = after-apart z s p (addSays z s p) refl on a
 
 still-on : (z : Set) (s p : List ℕ) (n : ℕ) → unless n (added z s p) z .discarding ≡ z .discarding
@@ -134,41 +135,41 @@ Sees z tiles seen = (u : List ℕ) → matchesSome (z .flips) (z .width) (z .hei
 sees-as : (z x : Set) (tiles seen : List (List ℕ)) → Settled z x → Sees z tiles seen → Sees x tiles seen
 sees-as z x tiles seen q a = rw (q .0, q .1, q .2) a
 
-module _ (z : Set) (s p : List ℕ) (seen : List (List ℕ)) (done : addSays z s p ≡ 0) (on : z .discarding ≡ true) (same : Sees z (tilesOf z s) seen) where
+module _ (z : Set) (s p : List ℕ) (seen : List (List ℕ)) (done : addSays z s p ≡ 0) (on : z .discarding ≡ true) (same : Sees z (setTiles z s) seen) where
   abbrev tile : List ℕ
   tile = cutTo (z .depth) p
 
   abbrev again : Bool
   again = matchesSome (z .flips) (z .width) (z .height) seen tile
 
-  one-sees : (b : Bool) → discards z s p ≡ b → Sees (added z s p) (tilesOf (added z s p) (storeWith z s p)) (seen ++ tile ∷ [])
+  one-sees : (b : Bool) → discards z s p ≡ b → Sees (added z s p) (setTiles (added z s p) (storeWith z s p)) (seen ++ tile ∷ [])
   one-sees true e =
-      sees-as z (added z s p) (tilesOf (added z s p) (storeWith z s p)) (seen ++ tile ∷ []) (settled z s p)
-      (rw (gone-tiles z s p done e) (alike-gone (z .flips) (z .width) (z .height) (known z s p done .some) (tilesOf z s) seen tile same (sym (discards-is z s p on) ∙ e)))
+      sees-as z (added z s p) (setTiles (added z s p) (storeWith z s p)) (seen ++ tile ∷ []) (settled z s p)
+      (rw (gone-tiles z s p done e) (alike-gone (z .flips) (z .width) (z .height) (known z s p done .some) (setTiles z s) seen tile same (sym (discards-is z s p on) ∙ e)))
   one-sees false e =
-      sees-as z (added z s p) (tilesOf (added z s p) (storeWith z s p)) (seen ++ tile ∷ []) (settled z s p)
-      (rw (kept-tiles z s p done e) (alike-kept (z .flips) (z .width) (z .height) (known z s p done .some) (tilesOf z s) seen tile same))
+      sees-as z (added z s p) (setTiles (added z s p) (storeWith z s p)) (seen ++ tile ∷ []) (settled z s p)
+      (rw (kept-tiles z s p done e) (alike-kept (z .flips) (z .width) (z .height) (known z s p done .some) (setTiles z s) seen tile same))
 
   again-is : discards z s p ≡ again
   again-is = discards-is z s p on ∙ same tile
 
   one-count : (b : Bool) → discards z s p ≡ b → added z s p .discarded ≡ z .discarded + bit again
-  one-count true e = ap (λ (x : Set). x .discarded) (drop-set z s p e) ∙ ap (λ (b : Bool). z .discarded + bit b) (sym e ∙ again-is)
+  one-count true e = ap (λ (x : Set). x .discarded) (discard-set z s p e) ∙ ap (λ (b : Bool). z .discarded + bit b) (sym e ∙ again-is)
   one-count false e =
       let none : again ≡ false = sym again-is ∙ e in
       ap (λ (x : Set). x .discarded) (keep-set z s p e) ∙ rw none (omega arith)
 
-after-sees : (z : Set) (s p : List ℕ) (seen : List (List ℕ)) (n : ℕ) → addSays z s p ≡ n → z .discarding ≡ true → Sees z (tilesOf z s) seen
-    → Sees (unless n (added z s p) z) (tilesOf (unless n (added z s p) z) (unless n (storeWith z s p) s)) (unless n (seen ++ cutTo (z .depth) p ∷ []) seen)
+after-sees : (z : Set) (s p : List ℕ) (seen : List (List ℕ)) (n : ℕ) → addSays z s p ≡ n → z .discarding ≡ true → Sees z (setTiles z s) seen
+    → Sees (unless n (added z s p) z) (setTiles (unless n (added z s p) z) (unless n (storeWith z s p) s)) (unless n (seen ++ cutTo (z .depth) p ∷ []) seen)
 after-sees z s p seen zero e on same = one-sees z s p seen e on same (discards z s p) refl
 after-sees z s p seen (suc n) e on same = same
 
-after-count : (z : Set) (s p : List ℕ) (seen : List (List ℕ)) (n : ℕ) → addSays z s p ≡ n → z .discarding ≡ true → Sees z (tilesOf z s) seen
+after-count : (z : Set) (s p : List ℕ) (seen : List (List ℕ)) (n : ℕ) → addSays z s p ≡ n → z .discarding ≡ true → Sees z (setTiles z s) seen
     → unless n (added z s p) z .discarded ≡ z .discarded + unless n (bit (matchesSome (z .flips) (z .width) (z .height) seen (cutTo (z .depth) p))) 0
 after-count z s p seen zero e on same = one-count z s p seen e on same (discards z s p) refl
 after-count z s p seen (suc n) e on same = omega arith
 
-seen-repeats : (z : Set) (s : List ℕ) (seen ps : List (List ℕ)) → z .discarding ≡ true → Sees z (tilesOf z s) seen
+seen-repeats : (z : Set) (s : List ℕ) (seen ps : List (List ℕ)) → z .discarding ≡ true → Sees z (setTiles z s) seen
     → setAtEnd z s ps .discarded ≡ z .discarded + repeats z s seen ps
 seen-repeats z s seen [] on same = omega arith
 seen-repeats z s seen (p ∷ ps) on same =
@@ -180,8 +181,8 @@ seen-repeats z s seen (p ∷ ps) on same =
     )
 
 -- from any state: the tiles of the set count as seen
-pub adds-repeats : (z : Set) (s : List ℕ) (ps : List (List ℕ)) → z .discarding ≡ true → setAtEnd z s ps .discarded ≡ z .discarded + repeats z s (tilesOf z s) ps
-adds-repeats z s ps on = seen-repeats z s (tilesOf z s) ps on (λ u. refl)
+pub adds-repeats : (z : Set) (s : List ℕ) (ps : List (List ℕ)) → z .discarding ≡ true → setAtEnd z s ps .discarded ≡ z .discarded + repeats z s (setTiles z s) ps
+adds-repeats z s ps on = seen-repeats z s (setTiles z s) ps on (λ u. refl)
 
 -- ---- with discarding off nothing is discarded
 

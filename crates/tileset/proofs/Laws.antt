@@ -7,7 +7,8 @@ use Prim.Native.Nat.{ℕ, _+_, _-_, _*_, _/_, _<_, _≤_}
 use native.Mathlib.Omega.{arith}
 use Rattle.tileset.specs.Sets.{emptied}
 use Rattle.tileset.specs.Finding.{tilesIn}
-use Rattle.tileset.specs.History.{setAtEnd, storeAtEnd, accepted, repeats, tilesOf, Apart}
+use Rattle.tileset.specs.Matched.{Apart}
+use Rattle.tileset.specs.History.{setAtEnd, storeAtEnd, accepted, repeats, setTiles}
 use Rattle.tileset.specs.Numbers.{rowCells, firstCell, Grid}
 use Rattle.tileset.specs.Reading.{readCount, readableSays, readSet}
 use Rattle.tileset.specs.declared.Set.{Set}
@@ -35,7 +36,7 @@ module _ (z : Set) (store : List ℕ) (ps : List (List ℕ)) where
   -- no two stored tiles match
   pub reset-apart : z .discarding ≡ true
       → Apart (setAtEnd (emptied z) store ps .flips) (setAtEnd (emptied z) store ps .width) (setAtEnd (emptied z) store ps .height)
-      (tilesOf (setAtEnd (emptied z) store ps) (storeAtEnd (emptied z) store ps))
+      (setTiles (setAtEnd (emptied z) store ps) (storeAtEnd (emptied z) store ps))
   unfolding tilesIn
   reset-apart on = adds-apart (emptied z) store ps on (apart-none (z .flips) (z .width) (z .height))
 
@@ -48,7 +49,7 @@ module _ (m d w h : ℕ) (flips : Bool) (count : ℕ) (store : List ℕ) (ps : L
   read-sum = omega (arith, adds-sum given store ps)
 
   -- "discarded is the number of those whose tile matched one read or accepted earlier"
-  pub read-repeats : setAtEnd given store ps .discarded ≡ repeats given store (tilesOf given store) ps
+  pub read-repeats : setAtEnd given store ps .discarded ≡ repeats given store (setTiles given store) ps
   read-repeats = omega (arith, adds-repeats given store ps refl)
 
 -- at 8x8 every cell is a tile

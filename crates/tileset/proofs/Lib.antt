@@ -5,7 +5,9 @@ pub mod Stores
 pub mod Search
 pub mod Adding
 pub mod Matched
+pub mod Keeping
 pub mod History
+pub mod Adds
 pub mod Laws
 pub mod Writing
 pub mod Written

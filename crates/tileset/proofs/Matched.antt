@@ -16,7 +16,7 @@ use Rattle.flip.specs.declared.Match.{Match}
 use Rattle.flip.specs.declared.Match.the-variants.{Under, Never}
 use Rattle.flip.proofs.Equivalence.{matches-trans}
 use Rattle.tileset.specs.Finding.{foundOr, findIn, lookUp, isFound}
-use Rattle.tileset.specs.History.{matchesSome, Apart}
+use Rattle.tileset.specs.Matched.{matchesSome, Apart}
 use Rattle.tileset.specs.declared.Found.{Found}
 
 found-or : (m : Match) (k : ℕ) (r : Found) → isFound (foundOr m k r) ≡ (isUnder m || isFound r)

@@ -23,7 +23,7 @@ use Rattle.tileset.specs.declared.Set.{Set}
 use Rattle.tileset.proofs.Sizes.{IsSet, grid-set, bits-some}
 use Rattle.tileset.proofs.Says.{held-set, held-says-set}
 use Rattle.tileset.proofs.Numbers.{belongs-start}
-use Rattle.tileset.proofs.Writing.{held-inside, write-held, cell-set, cells-room, cell-blank}
+use Rattle.tileset.proofs.Writing.{held-inside, write-held, cell-set, cells-space, cell-blank}
 use Rattle.tileset.proofs.Written.{cell-back, tile-pixel}
 use Rattle.tileset.proofs.Reading.{strip-some, tile-complete, cells-before, readable-set, read-0}
 
@@ -119,7 +119,7 @@ module _ {m d w h : ℕ} (s : IsSet m d w h) (other : m ≡ pce-sprite → ⊥) 
 
 -- ---- what was written is read
 
-module _ (z : Set) (store : List ℕ) (room : ℕ) (done : writeSays z store room ≡ 0) (other : z .mode ≡ pce-sprite → ⊥) where
+module _ (z : Set) (store : List ℕ) (space : ℕ) (done : writeSays z store space ≡ 0) (other : z .mode ≡ pce-sprite → ⊥) where
   abbrev bytes : List ℕ
   bytes = setBytes z store
 
@@ -131,13 +131,13 @@ module _ (z : Set) (store : List ℕ) (room : ℕ) (done : writeSays z store roo
   tiles = take (z .stored * area z) store ++ replicate ((count - z .stored) * area z) 0
 
   held : heldSays z (length store) ≡ 0
-  held = write-held z store room done
+  held = write-held z store space done
 
   sound : IsSet (z .mode) (z .depth) (z .width) (z .height)
   sound = held-set z (length store) held
 
   bytes-long : length bytes ≡ cellsOf z * (z .depth * 8)
-  bytes-long = sym (cell-set z store held other .1) ∙ cells-room z store held other
+  bytes-long = sym (cell-set z store held other .1) ∙ cells-space z store held other
 
   some : 0 < z .depth * 8
   some = omega (arith, bits-some sound)
@@ -175,7 +175,7 @@ module _ (z : Set) (store : List ℕ) (room : ℕ) (done : writeSays z store roo
         omega (arith, cells-before r (z .width / 8) (z .height / 8) t (y / 8) (x / 8) row-in column-in, tile-complete r (z .width / 8) (z .height / 8) grid-here (cellsOf z) t whole)
 
     unpacked-is : pixelIn (z .mode) (z .depth) (z .width) (z .height) bytes t y x ≡ getD (cellPixels z store cell) j 0
-    unpacked-is = ap (λ (l : List ℕ). getD l j 0) (cell-back z store room done other cell cell-there)
+    unpacked-is = ap (λ (l : List ℕ). getD l j 0) (cell-back z store space done other cell cell-there)
 
     abbrev place : ℕ
     place = t * area z + y * z .width + x
@@ -190,7 +190,7 @@ module _ (z : Set) (store : List ℕ) (room : ℕ) (done : writeSays z store roo
     pixel-case true e =
         let lt = ltb-true t (z .stored) e in
         let inside : place < z .stored * area z = omega (arith, in-area, item-inside (area z) (z .stored) t lt) in
-        tile-pixel z store room done other t y x lt hy hx
+        tile-pixel z store space done other t y x lt hy hx
         ∙ sym (getD-take (z .stored * area z) store place 0 inside)
         ∙ sym (List·getD-append (take (z .stored * area z) store) (replicate ((count - z .stored) * area z) 0) 0 place (omega (arith, front-long)))
     pixel-case false e =

@@ -11,7 +11,7 @@ use lib.Dec.{ltb, eqb}
 use lib.ListN.{length, getD, set, drop, take, take-append-drop, length-append, length-drop, List·getD-append}
 use lib.Seq.{sets, sets-eq, length-sets, length-take-le}
 use borrow.Author.Tests.{eq-eqb, ne-eqb, lt-ltb, le-ltb, ltb-true, ltb-false}
-use Rattle.words.specs.Answers.{_when_, lowest, overwrite}
+use Rattle.words.specs.Answers.{_when_, firstApplying, overwrite}
 use Rattle.words.specs.Loops.{each}
 use Rattle.words.proofs.Answers.{all-passed, not-given, first-given, when-done, when-refused}
 use Rattle.words.proofs.Items.{item-getD, item-inside, item-end, each-eq}
@@ -24,7 +24,7 @@ use Rattle.tile.specs.declared.Packing.{Packing}
 use Rattle.tile.proofs.Native.{Native, fitting}
 use Rattle.tile.proofs.RoundTrip.{length-spread}
 use Rattle.flip.proofs.Group.{place-lt, place-row, place-column}
-use Rattle.tileset.specs.Sets.{isSize, setSays, roomOf, heldSays, noSet}
+use Rattle.tileset.specs.Sets.{isSize, setSays, setRoom, heldSays, noSet}
 use Rattle.tileset.specs.Numbers.{rowCells, startsAt, firstCell, Grid}
 use Rattle.tileset.specs.Reading.{lastCell, wholeTiles, readCount, readableSays, readChecks, readSays, readSet, cellIn, pixelIn, rowIn, tileIn, readPixels, cellsIn, placeIn, rowOf, Reads}
 use Rattle.tileset.specs.declared.Set.{Set}
@@ -111,7 +111,7 @@ module _ (r h v : ℕ) (g : Grid r h v) (c : ℕ) where
 
 -- ---- the checks
 
-zero-second : (n : ℕ) (ns : List ℕ) → lowest (n ∷ 0 ∷ ns) ≡ lowest (n ∷ ns)
+zero-second : (n : ℕ) (ns : List ℕ) → firstApplying (n ∷ 0 ∷ ns) ≡ firstApplying (n ∷ ns)
 zero-second zero ns = refl
 zero-second (suc n) ns = refl
 
@@ -124,7 +124,7 @@ module _ (m d w h : ℕ) where
   unfolding readableSays setSays
   readable-set other =
       sym (zero-second (1 when ltb 15 m) (3 when not (hasDepth m d) ∷ 4 when not (isSize m w h) ∷ []))
-      ∙ ap (λ (b : Bool). lowest (1 when ltb 15 m ∷ 2 when b ∷ 3 when not (hasDepth m d) ∷ 4 when not (isSize m w h) ∷ [])) (sym (ne-eqb m pce-sprite other))
+      ∙ ap (λ (b : Bool). firstApplying (1 when ltb 15 m ∷ 2 when b ∷ 3 when not (hasDepth m d) ∷ 4 when not (isSize m w h) ∷ [])) (sym (ne-eqb m pce-sprite other))
 
   module _ (z : readableSays m d w h ≡ 0) where
     pub readable-mode : m ≡ pce-sprite → ⊥
@@ -133,52 +133,52 @@ module _ (m d w h : ℕ) where
     pub readable-says-set : setSays m d w h ≡ 0
     readable-says-set = readable-set readable-mode ∙ z
 
-  module _ (len room : ℕ) where
+  module _ (len space : ℕ) where
     abbrev count : ℕ
     count = readCount m d w h len
 
-    pub read-first : (n : ℕ) → n ≡ readableSays m d w h → (n ≡ 0 → ⊥) → n ≡ readSays m d w h len room
+    pub read-first : (n : ℕ) → n ≡ readableSays m d w h → (n ≡ 0 → ⊥) → n ≡ readSays m d w h len space
     unfolding readSays
     read-first n e due =
-        first-given n (7 when not (eqb (len % (d * 8)) 0) ∷ 11 when ltb room (count * (w * h)) ∷ 12 when ltb 65535 count ∷ []) e due
+        first-given n (7 when not (eqb (len % (d * 8)) 0) ∷ 11 when ltb space (count * (w * h)) ∷ 12 when ltb 65535 count ∷ []) e due
 
     module _ (z : readableSays m d w h ≡ 0) where
-      after : readSays m d w h len room ≡ lowest (7 when not (eqb (len % (d * 8)) 0) ∷ 11 when ltb room (count * (w * h)) ∷ 12 when ltb 65535 count ∷ [])
+      after : readSays m d w h len space ≡ firstApplying (7 when not (eqb (len % (d * 8)) 0) ∷ 11 when ltb space (count * (w * h)) ∷ 12 when ltb 65535 count ∷ [])
       unfolding readSays
-      after = next-given (7 when not (eqb (len % (d * 8)) 0) ∷ 11 when ltb room (count * (w * h)) ∷ 12 when ltb 65535 count ∷ []) z
+      after = next-given (7 when not (eqb (len % (d * 8)) 0) ∷ 11 when ltb space (count * (w * h)) ∷ 12 when ltb 65535 count ∷ []) z
 
-      pub read-7 : (len % (d * 8) ≡ 0 → ⊥) → 7 ≡ readSays m d w h len room
+      pub read-7 : (len % (d * 8) ≡ 0 → ⊥) → 7 ≡ readSays m d w h len space
       read-7 part = rw (after, ne-eqb (len % (d * 8)) 0 part)
 
-      pub read-11 : len % (d * 8) ≡ 0 → room < count * (w * h) → 11 ≡ readSays m d w h len room
-      read-11 whole lt = rw (after, eq-eqb (len % (d * 8)) 0 whole, lt-ltb room (count * (w * h)) lt)
+      pub read-11 : len % (d * 8) ≡ 0 → space < count * (w * h) → 11 ≡ readSays m d w h len space
+      read-11 whole lt = rw (after, eq-eqb (len % (d * 8)) 0 whole, lt-ltb space (count * (w * h)) lt)
 
-      pub read-12 : len % (d * 8) ≡ 0 → count * (w * h) ≤ room → 65535 < count → 12 ≡ readSays m d w h len room
-      read-12 whole le lt = rw (after, eq-eqb (len % (d * 8)) 0 whole, le-ltb room (count * (w * h)) le, lt-ltb 65535 count lt)
+      pub read-12 : len % (d * 8) ≡ 0 → count * (w * h) ≤ space → 65535 < count → 12 ≡ readSays m d w h len space
+      read-12 whole le lt = rw (after, eq-eqb (len % (d * 8)) 0 whole, le-ltb space (count * (w * h)) le, lt-ltb 65535 count lt)
 
-      pub read-0 : len % (d * 8) ≡ 0 → count * (w * h) ≤ room → count ≤ 65535 → 0 ≡ readSays m d w h len room
-      read-0 whole le few = rw (after, eq-eqb (len % (d * 8)) 0 whole, le-ltb room (count * (w * h)) le, le-ltb 65535 count few)
+      pub read-0 : len % (d * 8) ≡ 0 → count * (w * h) ≤ space → count ≤ 65535 → 0 ≡ readSays m d w h len space
+      read-0 whole le few = rw (after, eq-eqb (len % (d * 8)) 0 whole, le-ltb space (count * (w * h)) le, le-ltb 65535 count few)
 
-    module _ (z : readSays m d w h len room ≡ 0) where
+    module _ (z : readSays m d w h len space ≡ 0) where
       pub read-readable : readableSays m d w h ≡ 0
       unfolding readSays
-      read-readable = all-passed (readChecks m d w h len room) z 0
+      read-readable = all-passed (readChecks m d w h len space) z 0
 
-      pub read-room : count * (w * h) ≤ room
+      pub read-space : count * (w * h) ≤ space
       unfolding readSays
-      read-room = ltb-false room (count * (w * h)) (not-given 10 (ltb room (count * (w * h))) (all-passed (readChecks m d w h len room) z 2))
+      read-space = ltb-false space (count * (w * h)) (not-given 10 (ltb space (count * (w * h))) (all-passed (readChecks m d w h len space) z 2))
 
       pub read-few : count ≤ 65535
       unfolding readSays
-      read-few = ltb-false 65535 count (not-given 11 (ltb 65535 count) (all-passed (readChecks m d w h len room) z 3))
+      read-few = ltb-false 65535 count (not-given 11 (ltb 65535 count) (all-passed (readChecks m d w h len space) z 3))
 
       -- what was read is a set in its store
-      pub read-held : (flips : Bool) → heldSays (readSet m d w h flips count) room ≡ 0
-      unfolding roomOf
+      pub read-held : (flips : Bool) → heldSays (readSet m d w h flips count) space ≡ 0
+      unfolding setRoom
       read-held flips =
           let s = set-of m d w h (readable-says-set read-readable) in
-          let whole : count ≤ room / (w * h) = le-div-iff-mul-le {k = w * h} (mul-pos (s .some) (s .tall)) .1 read-room in
-          sym (held-0 (readSet m d w h flips count) room (readable-says-set read-readable) (omega (arith, read-few)))
+          let whole : count ≤ space / (w * h) = le-div-iff-mul-le {k = w * h} (mul-pos (s .some) (s .tall)) .1 read-space in
+          sym (held-0 (readSet m d w h flips count) space (readable-says-set read-readable) (omega (arith, read-few)))
 
 -- ---- cells
 
@@ -192,9 +192,9 @@ module _ {m d : ℕ} (n : Native m d 8 8) where
 
   module _ {p : Packing} (q : p ≡ packingOf m d 8 8) where
     pub unpacks-at : (bytes out : List ℕ) (from at : ℕ) → from + d * 8 ≤ length bytes → at + 64 ≤ length out → Unpacks p bytes from out at
-    unpacks-at bytes out from at inside room =
+    unpacks-at bytes out from at inside space =
         subst (λ (k : Packing). Unpacks k bytes from out at) (sym q)
-        (record { sound = fitting n .sound; inside = omega (arith, cell-bytes); room = omega (arith, fitting n .pixels) })
+        (record { sound = fitting n .sound; inside = omega (arith, cell-bytes); space = omega (arith, fitting n .pixels) })
 
     pub unpacks-cell : (bytes : List ℕ) (from : ℕ) → unpackedIn p (take (byteCount p) (drop from bytes)) ≡ unpacked m d 8 8 (take (d * 8) (drop from bytes))
     unpacks-cell bytes from =
@@ -249,14 +249,14 @@ fill-at-none f k out at =
 
 pub fill-at-more : {f : ℕ → List ℕ} {k : ℕ} {out now after : List ℕ} {at i : ℕ} → ((j : ℕ) → length (f j) ≡ k) → FillingAt f k out at i now → at + i * k + k ≤ length out
     → after ≡ sets now (at + i * k) (f i) → FillingAt f k out at (i + 1) after
-fill-at-more {f} {k} {out} {now} {after} {at} {i} size h room e =
+fill-at-more {f} {k} {out} {now} {after} {at} {i} size h space e =
     let front = take at out ++ each i f in
     let len : length front ≡ at + i * k = length-append (take at out) (each i f) ∙ rw (length-take-le at out (omega arith), length-each i k f size) in
     let end : at + i * k + k ≡ at + (i + 1) * k = omega (arith, item-end k i) in
     record {
       is =
           e ∙ ap (λ (l : List ℕ). sets l (at + i * k) (f i)) (h .is)
-          ∙ put-next front (f i) out (at + i * k) k len (size i) room
+          ∙ put-next front (f i) out (at + i * k) k len (size i) space
           ∙ ap (λ (l : List ℕ). l ++ drop (at + i * k + k) out) (append-assoc (take at out) (each i f) (f i))
           ∙ ap (λ (j : ℕ). (take at out ++ each (suc i) f) ++ drop j out) end
           ∙ ap (λ (j : ℕ). (take at out ++ each j f) ++ drop (at + (i + 1) * k) out) (sym (add-one i));
@@ -265,7 +265,7 @@ fill-at-more {f} {k} {out} {now} {after} {at} {i} size h room e =
 
 pub fill-at-all : {f : ℕ → List ℕ} {k : ℕ} {out now : List ℕ} {at i n : ℕ} → ((j : ℕ) → length (f j) ≡ k) → FillingAt f k out at i now → at + n * k ≤ length out → i ≡ n
     → now ≡ sets out at (each n f)
-fill-at-all {f} {k} {out} {now} {at} {i} {n} size h room e =
+fill-at-all {f} {k} {out} {now} {at} {i} {n} size h space e =
     let len : length (each n f) ≡ n * k = length-each n k f size in
     h .is ∙ ap (λ (j : ℕ). (take at out ++ each j f) ++ drop (at + j * k) out) e
     ∙ ap (λ (j : ℕ). (take at out ++ each n f) ++ drop (at + j) out) (sym len)
@@ -274,7 +274,7 @@ fill-at-all {f} {k} {out} {now} {at} {i} {n} size h room e =
 -- one pixel more
 pub fill-at-one : {g : ℕ → ℕ} {out now : List ℕ} {at i v : ℕ} → FillingAt (λ k. g k ∷ []) 1 out at i now → at + i < length out → v ≡ g i
     → FillingAt (λ k. g k ∷ []) 1 out at (i + 1) (set now (at + i) v)
-fill-at-one {g} {out} {now} {at} {i} {v} h room e =
+fill-at-one {g} {out} {now} {at} {i} {v} h space e =
     fill-at-more (λ j. refl) h (omega arith) (ap (λ (x : ℕ). set now (at + i) x) e ∙ ap (λ (k : ℕ). set now (at + k) (g i)) (sym (mul-one i)))
 
 -- ---- the rows of a tile, out of its cells' pixels

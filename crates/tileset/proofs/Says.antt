@@ -9,9 +9,9 @@ use native.Mathlib.Omega.{arith}
 use lib.Dec.{ltb, eqb}
 use lib.ListN.{length, getD}
 use borrow.Author.Tests.{lt-ltb, le-ltb, ltb-false, eq-eqb, ne-eqb, eqb-true, not-false}
-use Rattle.words.specs.Answers.{_when_, lowest}
+use Rattle.words.specs.Answers.{_when_, firstApplying}
 use Rattle.words.proofs.Answers.{all-passed, not-given, first-given, when-done, when-refused}
-use Rattle.tileset.specs.Sets.{area, roomOf, roomIn, setSays, heldChecks, heldSays, lookChecks, lookSays, answered}
+use Rattle.tileset.specs.Sets.{area, setRoom, roomIn, setSays, heldChecks, heldSays, lookChecks, lookSays, setAnswer}
 use Rattle.tileset.specs.Finding.{noPlace, placeOf, placed, Looks}
 use Rattle.tileset.specs.Numbers.{nativeAnswer, logicalAnswer, gridSays, nativeSays, logicalSays, tileOf}
 use Rattle.tileset.specs.declared.Set.{Set}
@@ -22,7 +22,7 @@ use Rattle.tileset.specs.declared.LogicalAnswer.{LogicalAnswer}
 use Rattle.tileset.proofs.Sizes.{IsSet, set-of}
 
 -- the first check passed
-pub next-given : {n : ℕ} (ns : List ℕ) → n ≡ 0 → lowest (n ∷ ns) ≡ lowest ns
+pub next-given : {n : ℕ} (ns : List ℕ) → n ≡ 0 → firstApplying (n ∷ ns) ≡ firstApplying ns
 next-given {n = zero} ns e = refl
 next-given {n = suc n} ns e = absurd (suc-ne-zero n e)
 
@@ -31,11 +31,11 @@ next-given {n = suc n} ns e = absurd (suc-ne-zero n e)
 abbrev pub setAnswer : ℕ → Set → SetAnswer
 setAnswer n set = record { refusal = n; set = set }
 
-pub refused-set : (n : ℕ) {k : ℕ} (next set : Set) → n ≡ k → (n ≡ 0 → ⊥) → setAnswer n set ≡ answered k next set
+pub refused-set : (n : ℕ) {k : ℕ} (next set : Set) → n ≡ k → (n ≡ 0 → ⊥) → setAnswer n set ≡ setAnswer k next set
 refused-set n {k} next set e h =
     ap (λ (i : ℕ). setAnswer i set) e ∙ ap (setAnswer k) (sym (when-refused k next set (λ z. h (e ∙ z))))
 
-pub done-set : {k : ℕ} (next set : Set) → k ≡ 0 → setAnswer 0 next ≡ answered k next set
+pub done-set : {k : ℕ} (next set : Set) → k ≡ 0 → setAnswer 0 next ≡ setAnswer k next set
 done-set {k} next set e =
     ap (λ (i : ℕ). setAnswer i next) (sym e) ∙ ap (setAnswer k) (sym (when-done k next set e))
 
@@ -71,16 +71,16 @@ cond-le : (b : Bool) (x y k : ℕ) → x ≤ k → y ≤ k → cond b x y ≤ k
 cond-le true x y k p q = p
 cond-le false x y k p q = q
 
-pub room-whole : (limit whole : ℕ) → roomOf limit whole ≤ whole
-unfolding roomOf
+pub room-whole : (limit whole : ℕ) → setRoom limit whole ≤ whole
+unfolding setRoom
 room-whole limit whole = cond-le (eqb limit 0) _ _ whole (omega arith) (omega arith)
 
-pub room-most : (limit whole : ℕ) → roomOf limit whole ≤ 65535
-unfolding roomOf
+pub room-most : (limit whole : ℕ) → setRoom limit whole ≤ 65535
+unfolding setRoom
 room-most limit whole = cond-le (eqb limit 0) _ _ 65535 (omega arith) (omega arith)
 
 -- a set with room has room for one tile more in its store
-pub room-left : (limit len n count : ℕ) → 0 < n → count < roomOf limit (len / n) → count * n + n ≤ len
+pub room-left : (limit len n count : ℕ) → 0 < n → count < setRoom limit (len / n) → count * n + n ≤ len
 room-left limit len n count z p =
     let q : suc count ≤ len / n = le-trans p (room-whole limit (len / n)) in
     omega (arith, le-div-iff-mul-le {k = n} z .0 q, suc-mul count n)

@@ -31,7 +31,7 @@ cut-none d pixels out at = record { is = paste-zero out at (cutTo d pixels); lon
 
 pub cut-more : {d : ℕ} {pixels out now : List ℕ} {at i v : ℕ} → Cutting d pixels out at i now → at + length pixels ≤ length out → i < length pixels → v ≡ getD pixels i 0 % 2 ^ d
     → Cutting d pixels out at (i + 1) (set now (at + i) v)
-cut-more {d} {pixels} {out} {now} {at} {i} {v} h room lt e =
+cut-more {d} {pixels} {out} {now} {at} {i} {v} h space lt e =
     record {
       is =
           ap (λ (l : List ℕ). set l (at + i) v) (h .is)
@@ -42,16 +42,16 @@ cut-more {d} {pixels} {out} {now} {at} {i} {v} h room lt e =
     }
 
 pub paste-all : (out tile : List ℕ) (at n : ℕ) → length tile ≡ n → at + n ≤ length out → paste out at tile n ≡ sets out at tile
-paste-all out tile at n e room =
+paste-all out tile at n e space =
     rw (← e) (ap (λ (t : List ℕ). take at out ++ t ++ drop (at + length tile) out) (take-length tile) ∙ sym (sets-eq tile out at (omega arith)))
 
 pub cut-all : {d : ℕ} {pixels out now : List ℕ} {at i : ℕ} → Cutting d pixels out at i now → at + length pixels ≤ length out → i ≡ length pixels → now ≡ sets out at (cutTo d pixels)
-cut-all {d} {pixels} {out} {at} {i} h room e =
+cut-all {d} {pixels} {out} {at} {i} h space e =
     h .is ∙ paste-all out (cutTo d pixels) at i (length-cut d pixels ∙ sym e) (omega arith)
 
 -- the cut pixels in a buffer of their own
 pub cut-front : (d : ℕ) (pixels out : List ℕ) → length pixels ≤ length out → take (length pixels) (sets out 0 (cutTo d pixels)) ≡ cutTo d pixels
-cut-front d pixels out room =
+cut-front d pixels out space =
     ap (take (length pixels)) (sets-front out (cutTo d pixels) (omega (arith, length-cut d pixels)))
     ∙ take-at (cutTo d pixels) (drop (length (cutTo d pixels)) out) (length pixels) (length-cut d pixels)
 

@@ -11,7 +11,7 @@ use lib.Dec.{T, ltb, eqb}
 use lib.ListN.{length, getD, set, drop, take, replicate, drop-of-length-le}
 use lib.Seq.{sets, length-sets, take-all}
 use borrow.Author.Tests.{eq-eqb, ne-eqb, lt-ltb, le-ltb, ltb-false}
-use Rattle.words.specs.Answers.{_when_, lowest, overwrite}
+use Rattle.words.specs.Answers.{_when_, firstApplying, overwrite}
 use Rattle.words.specs.Loops.{each, some}
 use Rattle.words.proofs.Answers.{first-given, all-passed, not-given}
 use Rattle.words.proofs.Items.{put-item, item-inside}
@@ -80,9 +80,9 @@ block-at w corner len i fits lt =
     let rows : i / 8 * w ≤ 7 * w = mul-le-mul-right w (omega arith) in
     omega arith
 
-pub gather-more : (f : ℕ → ℕ) (out now : List ℕ) (i v : ℕ) → now ≡ each i (λ k. f k ∷ []) ++ drop i out → i < length out → v ≡ f i
+pub take-block-more : (f : ℕ → ℕ) (out now : List ℕ) (i v : ℕ) → now ≡ each i (λ k. f k ∷ []) ++ drop i out → i < length out → v ≡ f i
     → set now i v ≡ each (i + 1) (λ k. f k ∷ []) ++ drop (i + 1) out
-gather-more f out now i v e lt q =
+take-block-more f out now i v e lt q =
     let g : ℕ → List ℕ = λ k. f k ∷ [] in
     let len : length (each i g) ≡ i = length-each i 1 g (λ k. refl) ∙ mul-one i in
     ap (λ (l : List ℕ). set l i v) e
@@ -90,8 +90,8 @@ gather-more f out now i v e lt q =
     ∙ put-next (each i g) (f i ∷ []) out i 1 len refl (omega arith)
     ∙ ap (λ (k : ℕ). each k g ++ drop (i + 1) out) (sym (add-one i))
 
-pub gather-all : (f : ℕ → ℕ) (out now : List ℕ) (i n : ℕ) → now ≡ each i (λ k. f k ∷ []) ++ drop i out → length out ≡ n → i ≡ n → now ≡ each n (λ k. f k ∷ [])
-gather-all f out now i n e len q =
+pub take-block-all : (f : ℕ → ℕ) (out now : List ℕ) (i n : ℕ) → now ≡ each i (λ k. f k ∷ []) ++ drop i out → length out ≡ n → i ≡ n → now ≡ each n (λ k. f k ∷ [])
+take-block-all f out now i n e len q =
     e ∙ ap (λ (k : ℕ). each k (λ k. f k ∷ []) ++ drop k out) q
     ∙ ap (λ (l : List ℕ). each n (λ k. f k ∷ []) ++ l) (drop-of-length-le out {i = n} (omega arith))
     ∙ append-nil (each n (λ k. f k ∷ []))
@@ -110,9 +110,9 @@ fill-none f k out = record { is = ap (λ (n : ℕ). drop n out) (sym (zero-mul k
 
 pub fill-more : {f : ℕ → List ℕ} {k : ℕ} {out now after : List ℕ} {i : ℕ} → ((j : ℕ) → length (f j) ≡ k) → Filling f k out i now → i * k + k ≤ length out
     → after ≡ sets now (i * k) (f i) → Filling f k out (i + 1) after
-fill-more {f} {k} {out} {now} {after} {i} size h room e =
+fill-more {f} {k} {out} {now} {after} {i} size h space e =
     record {
-      is = e ∙ ap (λ (l : List ℕ). sets l (i * k) (f i)) (h .is) ∙ put-item k f size i out room;
+      is = e ∙ ap (λ (l : List ℕ). sets l (i * k) (f i)) (h .is) ∙ put-item k f size i out space;
       long = ap length e ∙ length-sets now (i * k) (f i) ∙ h .long;
     }
 
@@ -136,9 +136,9 @@ packed-length {m} {d} {w} {h} n pixels = length-spread (layoutOf m d w h .bytes)
 -- packing one of several native tiles of a buffer
 module _ {m d w h : ℕ} {p : Packing} (q : p ≡ packingOf m d w h) (n : Native m d w h) where
   pub packs-at : (pixels out : List ℕ) (from at : ℕ) → from + w * h ≤ length pixels → at + w * h * d / 8 ≤ length out → Packs p pixels from out at
-  packs-at pixels out from at inside room =
+  packs-at pixels out from at inside space =
       subst (λ (k : Packing). Packs k pixels from out at) (sym q)
-      (record { sound = fitting n .sound; inside = omega (arith, fitting n .pixels); room = omega (arith, fitting n .bytes) })
+      (record { sound = fitting n .sound; inside = omega (arith, fitting n .pixels); space = omega (arith, fitting n .bytes) })
 
   pub packs-bytes : (pixels : List ℕ) (from : ℕ) → packedIn p (take (pixelCount p) (drop from pixels)) ≡ packed m d w h (take (w * h) (drop from pixels))
   packs-bytes pixels from =
@@ -178,8 +178,8 @@ module _ (z : Set) (len : ℕ) (held : heldSays z len ≡ 0) where
   corner-inside other c lt = le-trans (corner-counted other c lt) held-inside
 
 -- the room for one item more
-pub item-room : (n k room i : ℕ) → n * k ≤ room → i < n → i * k + k ≤ room
-item-room n k room i fits lt = omega (arith, item-inside k n i lt)
+pub item-space : (n k space i : ℕ) → n * k ≤ space → i < n → i * k + k ≤ space
+item-space n k space i fits lt = omega (arith, item-inside k n i lt)
 
 pub cell-blank : (z : Set) (store : List ℕ) (c : ℕ) → z .stored ≤ tileOf (z .mode) (z .width) (z .height) c → replicate 64 0 ≡ cellPixels z store c
 unfolding cellPixels
@@ -198,37 +198,37 @@ cell-packed {m} {d} q n buffer pixels len e =
 
 -- ---- the checks of writing
 
-module _ (z : Set) (store : List ℕ) (room : ℕ) where
+module _ (z : Set) (store : List ℕ) (space : ℕ) where
   abbrev large : Bool
   large = some (z .stored * area z) (tooLarge (z .depth) store)
 
-  pub write-first : (n : ℕ) → n ≡ heldSays z (length store) → (n ≡ 0 → ⊥) → n ≡ writeSays z store room
+  pub write-first : (n : ℕ) → n ≡ heldSays z (length store) → (n ≡ 0 → ⊥) → n ≡ writeSays z store space
   unfolding writeSays
-  write-first n e h = first-given n (8 when large ∷ 11 when ltb room (writeSize z) ∷ []) e h
+  write-first n e h = first-given n (8 when large ∷ 11 when ltb space (writeSize z) ∷ []) e h
 
   module _ (held : heldSays z (length store) ≡ 0) where
-    rest : writeSays z store room ≡ lowest (8 when large ∷ 11 when ltb room (writeSize z) ∷ [])
+    rest : writeSays z store space ≡ firstApplying (8 when large ∷ 11 when ltb space (writeSize z) ∷ [])
     unfolding writeSays
-    rest = next-given (8 when large ∷ 11 when ltb room (writeSize z) ∷ []) held
+    rest = next-given (8 when large ∷ 11 when ltb space (writeSize z) ∷ []) held
 
-    pub write-8 : large ≡ true → 8 ≡ writeSays z store room
-    write-8 e = sym (rest ∙ ap (λ (b : Bool). lowest (8 when b ∷ 11 when ltb room (writeSize z) ∷ [])) e)
+    pub write-8 : large ≡ true → 8 ≡ writeSays z store space
+    write-8 e = sym (rest ∙ ap (λ (b : Bool). firstApplying (8 when b ∷ 11 when ltb space (writeSize z) ∷ [])) e)
 
-    pub write-11 : large ≡ false → room < writeSize z → 11 ≡ writeSays z store room
+    pub write-11 : large ≡ false → space < writeSize z → 11 ≡ writeSays z store space
     write-11 e lt =
-        sym (rest ∙ ap (λ (b : Bool). lowest (8 when b ∷ 11 when ltb room (writeSize z) ∷ [])) e ∙ ap (λ (b : Bool). lowest (11 when b ∷ [])) (lt-ltb room (writeSize z) lt))
+        sym (rest ∙ ap (λ (b : Bool). firstApplying (8 when b ∷ 11 when ltb space (writeSize z) ∷ [])) e ∙ ap (λ (b : Bool). firstApplying (11 when b ∷ [])) (lt-ltb space (writeSize z) lt))
 
-    pub write-0 : large ≡ false → writeSize z ≤ room → 0 ≡ writeSays z store room
+    pub write-0 : large ≡ false → writeSize z ≤ space → 0 ≡ writeSays z store space
     write-0 e le =
-        sym (rest ∙ ap (λ (b : Bool). lowest (8 when b ∷ 11 when ltb room (writeSize z) ∷ [])) e ∙ ap (λ (b : Bool). lowest (11 when b ∷ [])) (le-ltb room (writeSize z) le))
+        sym (rest ∙ ap (λ (b : Bool). firstApplying (8 when b ∷ 11 when ltb space (writeSize z) ∷ [])) e ∙ ap (λ (b : Bool). firstApplying (11 when b ∷ [])) (le-ltb space (writeSize z) le))
 
-  pub write-held : writeSays z store room ≡ 0 → heldSays z (length store) ≡ 0
+  pub write-held : writeSays z store space ≡ 0 → heldSays z (length store) ≡ 0
   unfolding writeSays
-  write-held e = all-passed (writeChecks z store room) e 0
+  write-held e = all-passed (writeChecks z store space) e 0
 
-  pub write-room : writeSays z store room ≡ 0 → writeSize z ≤ room
+  pub write-space : writeSays z store space ≡ 0 → writeSize z ≤ space
   unfolding writeSays
-  write-room e = ltb-false room (writeSize z) (not-given 10 (ltb room (writeSize z)) (all-passed (writeChecks z store room) e 2))
+  write-space e = ltb-false space (writeSize z) (not-given 10 (ltb space (writeSize z)) (all-passed (writeChecks z store space) e 2))
 
 -- the bytes of a set, and how many they are
 module _ (z : Set) (store : List ℕ) (held : heldSays z (length store) ≡ 0) where
@@ -242,10 +242,10 @@ module _ (z : Set) (store : List ℕ) (held : heldSays z (length store) ≡ 0) w
   cell-set other =
       rw (ne-eqb (z .mode) pce-sprite other) (refl, sym (length-each (cellsOf z) (z .depth * 8) (cellBytes z store) (cell-length z (length store) held other store)))
 
-  pub cells-room : (z .mode ≡ pce-sprite → ⊥) → writeSize z ≡ cellsOf z * (z .depth * 8)
+  pub cells-space : (z .mode ≡ pce-sprite → ⊥) → writeSize z ≡ cellsOf z * (z .depth * 8)
   unfolding writeSize
-  cells-room other = rw (ne-eqb (z .mode) pce-sprite other)
+  cells-space other = rw (ne-eqb (z .mode) pce-sprite other)
 
-  pub sprites-room : z .mode ≡ pce-sprite → writeSize z ≡ z .stored * (area z * z .depth / 8)
+  pub sprites-space : z .mode ≡ pce-sprite → writeSize z ≡ z .stored * (area z * z .depth / 8)
   unfolding writeSize
-  sprites-room is = rw (eq-eqb (z .mode) pce-sprite is)
+  sprites-space is = rw (eq-eqb (z .mode) pce-sprite is)

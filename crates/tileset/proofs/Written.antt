@@ -35,13 +35,13 @@ back {m} {d} {w} {h} n pixels len small =
     pixels-back-in (packingOf m d w h) (f .sound) pixels (len ∙ sym (f .pixels))
     (λ i l. subst (λ (k : ℕ). getD pixels i 0 < 2 ^ k) (sym (f .bits)) (small i (rw (f .pixels) at l)))
 
-module _ (z : Set) (store : List ℕ) (room : ℕ) (done : writeSays z store room ≡ 0) where
+module _ (z : Set) (store : List ℕ) (space : ℕ) (done : writeSays z store space ≡ 0) where
   held : heldSays z (length store) ≡ 0
-  held = write-held z store room done
+  held = write-held z store space done
 
   none-large : some (z .stored * area z) (tooLarge (z .depth) store) ≡ false
   unfolding writeSays
-  none-large = not-given 7 (some (z .stored * area z) (tooLarge (z .depth) store)) (all-passed (writeChecks z store room) done 1)
+  none-large = not-given 7 (some (z .stored * area z) (tooLarge (z .depth) store)) (all-passed (writeChecks z store space) done 1)
 
   -- each counted pixel is below 2^depth
   small-at : (i : ℕ) → i < z .stored * area z → getD store i 0 < 2 ^ z .depth
@@ -94,7 +94,7 @@ module _ (z : Set) (store : List ℕ) (room : ℕ) (done : writeSays z store roo
 zero-of : (n : ℕ) → n < 1 → n ≡ 0
 zero-of n h = omega arith
 
-module _ (z : Set) (store : List ℕ) (room : ℕ) (done : writeSays z store room ≡ 0) (other : z .mode ≡ pce-sprite → ⊥) (t y x : ℕ) (ht : t < z .stored) (hy : y < z .height) (hx : x < z .width) where
+module _ (z : Set) (store : List ℕ) (space : ℕ) (done : writeSays z store space ≡ 0) (other : z .mode ≡ pce-sprite → ⊥) (t y x : ℕ) (ht : t < z .stored) (hy : y < z .height) (hx : x < z .width) where
   abbrev r : ℕ
   r = rowCells (z .mode)
 
@@ -102,7 +102,7 @@ module _ (z : Set) (store : List ℕ) (room : ℕ) (done : writeSays z store roo
   cell = firstCell (z .mode) (z .width) (z .height) t + y / 8 * r + x / 8
 
   sound : IsSet (z .mode) (z .depth) (z .width) (z .height)
-  sound = held-set z (length store) (write-held z store room done)
+  sound = held-set z (length store) (write-held z store space done)
 
   grid : Grid r (z .width / 8) (z .height / 8)
   grid = grid-set sound other

@@ -1,23 +1,15 @@
 -- "Over any adds since the last reset, store, state and settings else unchanged: stored + discarded = adds answered 0, and discarded is the number
 -- of those whose tile matched one read or accepted earlier (0 with discarding off)."
 -- Assumes nothing.
-use mathlib.Core.Path.{_≡_}
-use mathlib.Core.Bool.{Bool, false, _||_}
 use mathlib.Core.List.{List, [], _∷_, _++_}
-use Prim.Native.Nat.{ℕ, _+_, _<_}
-use lib.ListN.{length, getD}
+use Prim.Native.Nat.{ℕ, _+_}
 use Rattle.words.specs.Answers.{unless}
 use Rattle.words.specs.Bytes.{bit}
-use Rattle.flip.specs.Matching.{matches}
 use Rattle.tileset.specs.Sets.{area}
 use Rattle.tileset.specs.Finding.{cutTo, tilesIn}
+use Rattle.tileset.specs.Matched.{matchesSome}
 use Rattle.tileset.specs.Adding.{addSays, added, storeWith}
 use Rattle.tileset.specs.declared.Set.{Set}
-
--- Whether a tile matches one of some tiles.
-abbrev pub matchesSome : Bool → ℕ → ℕ → List (List ℕ) → List ℕ → Bool
-matchesSome on w h [] tile = false
-matchesSome on w h (a ∷ rest) tile = matches on w h a tile || matchesSome on w h rest tile
 
 -- The set and the store after one add, refused or not, and after some.
 abbrev pub setAfter : Set → List ℕ → List ℕ → Set
@@ -46,9 +38,6 @@ repeats z store seen (p ∷ ps) =
     unless (addSays z store p) (bit (matchesSome (z .flips) (z .width) (z .height) seen (cutTo (z .depth) p))) 0
     + repeats (setAfter z store p) (storeAfter z store p) (unless (addSays z store p) (seen ++ cutTo (z .depth) p ∷ []) seen) ps
 
--- The tiles of a set, and that no two of them match.
-abbrev pub tilesOf : Set → List ℕ → List (List ℕ)
-tilesOf z store = tilesIn (area z) store (z .stored)
-
-unfoldable pub Apart : Bool → ℕ → ℕ → List (List ℕ) → Type 0
-Apart on w h tiles = (i j : ℕ) → i < j → j < length tiles → matches on w h (getD tiles i []) (getD tiles j []) ≡ false
+-- The tiles of a set.
+abbrev pub setTiles : Set → List ℕ → List (List ℕ)
+setTiles z store = tilesIn (area z) store (z .stored)

@@ -1,5 +1,7 @@
 pub mod Sets
 pub mod Finding
+pub mod Matched
+pub mod Keeping
 pub mod Adding
 pub mod History
 pub mod Numbers

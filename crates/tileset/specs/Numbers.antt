@@ -5,7 +5,7 @@ use mathlib.Core.Bool.{not, cond}
 use mathlib.Core.List.{List, [], _∷_}
 use Prim.Native.Nat.{ℕ, _+_, _*_, _/_, _%_, _<_, _≤_}
 use lib.Dec.{ltb, eqb}
-use Rattle.words.specs.Answers.{_when_, lowest, unless}
+use Rattle.words.specs.Answers.{_when_, firstApplying, unless}
 use Rattle.mode.specs.Table.{pce-sprite}
 use Rattle.tileset.specs.Sets.{snes, isSize}
 use Rattle.tileset.specs.declared.NativeAnswer.{NativeAnswer}
@@ -34,13 +34,13 @@ abbrev pub gridChecks : ℕ → ℕ → ℕ → List ℕ
 gridChecks m w h = 1 when ltb 15 m ∷ 2 when eqb m pce-sprite ∷ 4 when not (isSize m w h) ∷ []
 
 unfoldable pub gridSays : ℕ → ℕ → ℕ → ℕ
-gridSays m w h = lowest (gridChecks m w h)
+gridSays m w h = firstApplying (gridChecks m w h)
 
 unfoldable pub nativeSays : ℕ → ℕ → ℕ → ℕ → ℕ
-nativeSays m w h n = lowest (gridSays m w h ∷ 4 when ltb 65535 n ∷ [])
+nativeSays m w h n = firstApplying (gridSays m w h ∷ 4 when ltb 65535 n ∷ [])
 
 unfoldable pub logicalSays : ℕ → ℕ → ℕ → ℕ → ℕ
-logicalSays m w h c = lowest (gridSays m w h ∷ 4 when ltb 65535 (tileOf m w h c) ∷ [])
+logicalSays m w h c = firstApplying (gridSays m w h ∷ 4 when ltb 65535 (tileOf m w h c) ∷ [])
 
 abbrev pub nativeAnswer : ℕ → ℕ → NativeAnswer
 nativeAnswer n cell = record { refusal = n; number = record { 0 = unless n cell 0 } }

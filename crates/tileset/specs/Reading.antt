@@ -6,7 +6,7 @@ use mathlib.Core.List.{List, [], _∷_}
 use Prim.Native.Nat.{ℕ, _+_, _-_, _*_, _/_, _%_, _≤_}
 use lib.Dec.{ltb, eqb}
 use lib.ListN.{length, getD, take, drop}
-use Rattle.words.specs.Answers.{_when_, lowest, overwrite}
+use Rattle.words.specs.Answers.{_when_, firstApplying, overwrite}
 use Rattle.words.specs.Loops.{each}
 use Rattle.mode.specs.Table.{hasDepth, pce-sprite}
 use Rattle.tile.specs.Tile.{unpacked}
@@ -29,19 +29,19 @@ abbrev pub readableChecks : ℕ → ℕ → ℕ → ℕ → List ℕ
 readableChecks m d w h = 1 when ltb 15 m ∷ 2 when eqb m pce-sprite ∷ 3 when not (hasDepth m d) ∷ 4 when not (isSize m w h) ∷ []
 
 unfoldable pub readableSays : ℕ → ℕ → ℕ → ℕ → ℕ
-readableSays m d w h = lowest (readableChecks m d w h)
+readableSays m d w h = firstApplying (readableChecks m d w h)
 
 -- "Whole cells (else 7)." "A store too short for them is 11; more than 65,535 tiles: 12." Of so many bytes, into a store of so many pixels.
 abbrev pub readChecks : ℕ → ℕ → ℕ → ℕ → ℕ → ℕ → List ℕ
-readChecks m d w h len room =
+readChecks m d w h len space =
     readableSays m d w h
     ∷ 7 when not (eqb (len % (d * 8)) 0)
-    ∷ 11 when ltb room (readCount m d w h len * (w * h))
+    ∷ 11 when ltb space (readCount m d w h len * (w * h))
     ∷ 12 when ltb 65535 (readCount m d w h len)
     ∷ []
 
 unfoldable pub readSays : ℕ → ℕ → ℕ → ℕ → ℕ → ℕ → ℕ
-readSays m d w h len room = lowest (readChecks m d w h len room)
+readSays m d w h len space = firstApplying (readChecks m d w h len space)
 
 -- "A read set has limit 0, discarding on, flips as given, discarded 0."
 abbrev pub readSet : ℕ → ℕ → ℕ → ℕ → Bool → ℕ → Set
@@ -84,7 +84,7 @@ pub record ReadsAll (m d w h : ℕ) (bytes store : List ℕ) (count : ℕ) : Typ
   pub cells : m ≡ pce-sprite → ⊥
   pub few : count ≤ 65535
   pub is : count ≡ readCount m d w h (length bytes)
-  pub room : count * (w * h) ≤ length store
+  pub space : count * (w * h) ≤ length store
 
 abbrev pub lastCell : ℕ → ℕ → ℕ → ℕ → ℕ
 lastCell r h v n = startsAt r h v n + (v - 1) * r + (h - 1)
@@ -100,12 +100,12 @@ pub record ReadsRows (w h : ℕ) (cells out : List ℕ) (at : ℕ) : Type 0 wher
   pub across : w ≡ w / 8 * 8
   pub down : h ≡ h / 8 * 8
   pub inside : w * h ≤ length cells
-  pub room : at + w * h ≤ length out
+  pub space : at + w * h ≤ length out
 
 pub record ReadsRow (w y : ℕ) (cells out : List ℕ) (at : ℕ) : Type 0 where
   pub across : w ≡ w / 8 * 8
   pub inside : (y / 8 * 8 + 8) * w ≤ length cells
-  pub room : at + w ≤ length out
+  pub space : at + w ≤ length out
 
 -- The pixels of a tile's cells, cell after cell, row by row of cells; and where pixel (y, x) of the tile is among them.
 abbrev pub cellsIn : ℕ → ℕ → ℕ → ℕ → List ℕ → ℕ → List ℕ

@@ -4,7 +4,7 @@ use mathlib.Core.Bool.{Bool, false, not, cond, _&&_}
 use mathlib.Core.List.{List, [], _∷_}
 use Prim.Native.Nat.{ℕ, _*_, _/_, min}
 use lib.Dec.{ltb, eqb}
-use Rattle.words.specs.Answers.{_when_, lowest, unless}
+use Rattle.words.specs.Answers.{_when_, firstApplying, unless}
 use Rattle.mode.specs.Table.{oneOf, hasDepth, pce-sprite}
 use Rattle.tileset.specs.declared.Set.{Set}
 use Rattle.tileset.specs.declared.SetAnswer.{SetAnswer}
@@ -39,7 +39,7 @@ abbrev pub setChecks : ℕ → ℕ → ℕ → ℕ → List ℕ
 setChecks m d w h = 1 when ltb 15 m ∷ 3 when not (hasDepth m d) ∷ 4 when not (isSize m w h) ∷ []
 
 unfoldable pub setSays : ℕ → ℕ → ℕ → ℕ → ℕ
-setSays m d w h = lowest (setChecks m d w h)
+setSays m d w h = firstApplying (setChecks m d w h)
 
 abbrev pub withCounts : Set → ℕ → ℕ → Set
 withCounts z stored discarded =
@@ -66,29 +66,29 @@ abbrev pub noSet : Set
 noSet = newSet 0 0 0 0 false false 0
 
 -- The answer of a call: the set as it is done, or the one that a refusal gives.
-abbrev pub answered : ℕ → Set → Set → SetAnswer
-answered n done refused = record { refusal = n; set = unless n done refused }
+abbrev pub setAnswer : ℕ → Set → Set → SetAnswer
+setAnswer n done refused = record { refusal = n; set = unless n done refused }
 
 -- "Room is the least of 65,535, the store's whole tiles, and the limit if not 0."
 abbrev pub area : Set → ℕ
 area z = z .width * z .height
 
-unfoldable pub roomOf : ℕ → ℕ → ℕ
-roomOf limit whole = cond (eqb limit 0) (min 65535 whole) (min (min 65535 whole) limit)
+unfoldable pub setRoom : ℕ → ℕ → ℕ
+setRoom limit whole = cond (eqb limit 0) (min 65535 whole) (min (min 65535 whole) limit)
 
 abbrev pub roomIn : Set → ℕ → ℕ
-roomIn z len = roomOf (z .limit) (len / area z)
+roomIn z len = setRoom (z .limit) (len / area z)
 
 -- "Set state counts more tiles than its room": checked wherever a set comes with its store, of so many pixels.
 abbrev pub heldChecks : Set → ℕ → List ℕ
 heldChecks z len = setSays (z .mode) (z .depth) (z .width) (z .height) ∷ 6 when ltb (roomIn z len) (z .stored) ∷ []
 
 unfoldable pub heldSays : Set → ℕ → ℕ
-heldSays z len = lowest (heldChecks z len)
+heldSays z len = firstApplying (heldChecks z len)
 
 -- A look-up, of a tile of so many pixels.
 abbrev pub lookChecks : Set → ℕ → ℕ → List ℕ
 lookChecks z len given = heldSays z len ∷ 7 when not (eqb given (area z)) ∷ []
 
 unfoldable pub lookSays : Set → ℕ → ℕ → ℕ
-lookSays z len given = lowest (lookChecks z len given)
+lookSays z len given = firstApplying (lookChecks z len given)

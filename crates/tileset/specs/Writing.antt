@@ -6,7 +6,7 @@ use mathlib.Core.List.{List, [], _∷_}
 use Prim.Native.Nat.{ℕ, _+_, _-_, _*_, _/_, _%_, _≤_}
 use lib.Dec.{ltb, eqb}
 use lib.ListN.{length, getD, take, drop, replicate}
-use Rattle.words.specs.Answers.{_when_, lowest}
+use Rattle.words.specs.Answers.{_when_, firstApplying}
 use Rattle.words.specs.Loops.{each, some}
 use Rattle.mode.specs.Table.{pce-sprite}
 use Rattle.tile.specs.Tile.{packed, tooLarge}
@@ -50,21 +50,21 @@ writeSize z = cond (eqb (z .mode) pce-sprite) (z .stored * (area z * z .depth / 
 
 -- "A pixel of 2^depth or more, in set writing" (8), of the counted tiles.
 abbrev pub writeChecks : Set → List ℕ → ℕ → List ℕ
-writeChecks z store room =
-    heldSays z (length store) ∷ 8 when some (z .stored * area z) (tooLarge (z .depth) store) ∷ 11 when ltb room (writeSize z) ∷ []
+writeChecks z store space =
+    heldSays z (length store) ∷ 8 when some (z .stored * area z) (tooLarge (z .depth) store) ∷ 11 when ltb space (writeSize z) ∷ []
 
 unfoldable pub writeSays : Set → List ℕ → ℕ → ℕ
-writeSays z store room = lowest (writeChecks z store room)
+writeSays z store space = firstApplying (writeChecks z store space)
 
 -- What writing a set's bytes asks, and one cell's.
 pub record Writes (z : Set) (store out : List ℕ) : Type 0 where
   pub held : heldSays z (length store) ≡ 0
-  pub room : writeSize z ≤ length out
+  pub space : writeSize z ≤ length out
 
 pub record PutsCell (z : Set) (store : List ℕ) (out : List ℕ) (at : ℕ) : Type 0 where
   pub held : heldSays z (length store) ≡ 0
   pub cells : z .mode ≡ pce-sprite → ⊥
-  pub room : at + z .depth * 8 ≤ length out
+  pub space : at + z .depth * 8 ≤ length out
 
 -- A cell of a tile, and where its pixels start.
 pub record HasCorner (z : Set) (c tile : ℕ) : Type 0 where

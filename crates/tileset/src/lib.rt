@@ -11,7 +11,7 @@ ghost use lib.Seq.{sets};
 ghost use Rattle.words.specs.Answers.{_when_, overwrite, Wrote};
 ghost use Rattle.words.specs.Loops.{each, some};
 ghost use Rattle.tile.specs.Tile.{tooLarge};
-ghost use Rattle.tileset.specs.Sets.{isSide, isWidth, isHeight, setSays, roomOf, heldSays, lookSays, area, noSet, emptied, newSet, answered};
+ghost use Rattle.tileset.specs.Sets.{isSide, isWidth, isHeight, setSays, setRoom, heldSays, lookSays, area, noSet, emptied, newSet, setAnswer};
 ghost use Rattle.tileset.specs.Finding.{cutTo, tilesIn, lookUp, foundIn, noPlace, placeOf, placed, Cuts, Finds, Looks};
 ghost use Rattle.tileset.specs.Adding.{oneStored, oneDiscarded, addSays, added, storeWith, Adds};
 ghost use Rattle.tileset.specs.Numbers.{rowCells, firstCell, tileOf, gridSays, nativeAnswer, nativeSays, logicalAnswer, logicalSays, Grid};
@@ -139,7 +139,7 @@ pub fn set_new(
     discarding: bool,
     limit: u32,
 ) -> SetAnswer
-    ensures { λ r. ⌜ r ≡ answered (setSays mode depth width height) (newSet mode depth width height flips discarding limit) noSet ⌝ }
+    ensures { λ r. ⌜ r ≡ setAnswer (setSays mode depth width height) (newSet mode depth width height flips discarding limit) noSet ⌝ }
 {
     let refusal = set_says(mode, depth, width, height);
     if refusal != 0 {
@@ -176,7 +176,7 @@ pub fn set_new(
 
 // The set with no tiles.
 pub fn set_reset(set: Set) -> SetAnswer
-    ensures { λ r. ⌜ r ≡ answered (setSays (set .mode) (set .depth) (set .width) (set .height)) (emptied set) set ⌝ }
+    ensures { λ r. ⌜ r ≡ setAnswer (setSays (set .mode) (set .depth) (set .width) (set .height)) (emptied set) set ⌝ }
 {
     let refusal = set_says(set.mode, set.depth, set.width, set.height);
     if refusal != 0 {
@@ -193,7 +193,7 @@ pub fn set_reset(set: Set) -> SetAnswer
 
 // How many tiles a set may have, given how many whole tiles its store has.
 fn room(limit: u32, whole: usize) -> usize
-    ensures { λ r. ⌜ r ≡ roomOf limit whole ⌝ }
+    ensures { λ r. ⌜ r ≡ setRoom limit whole ⌝ }
 {
     let most = words::least(65535, whole);
     if limit == 0 {
@@ -327,7 +327,7 @@ pub fn look_up(set: Set, store: &[u8], pixels: &[u8]) -> Place
 // The tile goes at the end, or 12.
 fn append(set: Set, store: &mut [u8], pixels: &[u8]) -> SetAnswer
     requires { ⌜ Looks set (now store) (now pixels) ⌝ }
-    ensures { λ r. ⌜ Adds (12 when leb (roomOf (set .limit) (length (now (store .entry)) / area set)) (set .stored)) set (oneStored set) (now (store .entry)) (sets (now (store .entry)) (set .stored * area set) (cutTo (set .depth) (now (pixels .entry)))) r (now (store .exit)) ⌝ }
+    ensures { λ r. ⌜ Adds (12 when leb (setRoom (set .limit) (length (now (store .entry)) / area set)) (set .stored)) set (oneStored set) (now (store .entry)) (sets (now (store .entry)) (set .stored * area set) (cutTo (set .depth) (now (pixels .entry)))) r (now (store .exit)) ⌝ }
 {
     let n = pixels.len();
     let count = set.stored as usize;
@@ -345,7 +345,7 @@ fn append(set: Set, store: &mut [u8], pixels: &[u8]) -> SetAnswer
 
 // A match is counted, or 13.
 fn discard(set: Set) -> SetAnswer
-    ensures { λ r. ⌜ r ≡ answered (13 when eqb (set .discarded) 4294967295) (oneDiscarded set) set ⌝ }
+    ensures { λ r. ⌜ r ≡ setAnswer (13 when eqb (set .discarded) 4294967295) (oneDiscarded set) set ⌝ }
 {
     if set.discarded == 4294967295 {
         return SetAnswer { refusal: 13, set };
@@ -509,7 +509,7 @@ fn corner(set: Set, c: u32, tile: Logical) -> usize
 }
 
 // The block of eight by eight pixels that starts at a corner, of a store with rows of so many pixels.
-fn gather(store: &[u8], corner: usize, width: usize, out: &mut [u8])
+fn take_block(store: &[u8], corner: usize, width: usize, out: &mut [u8])
     requires { ⌜ HasBlock (now store) corner width (now out) ⌝ }
     ensures { λ _. ⌜ now (out .exit) ≡ block (now (store .entry)) corner width ⌝ }
 {
@@ -532,7 +532,7 @@ fn put_cell(set: Set, store: &[u8], c: u32, out: &mut [u8], at: usize)
         tile::put_tile(p, &cell, 0, out, at);
         return;
     }
-    gather(store, corner(set, c, tile), set.width as usize, &mut cell);
+    take_block(store, corner(set, c, tile), set.width as usize, &mut cell);
     tile::put_tile(p, &cell, 0, out, at);
 }
 
@@ -595,8 +595,8 @@ fn write_size(set: Set) -> usize
     (count * (set.depth * 8)) as usize
 }
 
-fn write_says(set: Set, store: &[u8], room: usize) -> u32
-    ensures { λ r. ⌜ r ≡ writeSays set (now (store .entry)) room ⌝ }
+fn write_says(set: Set, store: &[u8], space: usize) -> u32
+    ensures { λ r. ⌜ r ≡ writeSays set (now (store .entry)) space ⌝ }
 {
     let refusal = held_says(set, store.len());
     if refusal != 0 {
@@ -606,7 +606,7 @@ fn write_says(set: Set, store: &[u8], room: usize) -> u32
     if some_too_large(set.depth, store, count) {
         return 8;
     }
-    if room < write_size(set) {
+    if space < write_size(set) {
         return 11;
     }
     0
@@ -672,8 +672,8 @@ fn read_count(mode: u32, depth: u32, width: u32, height: u32, len: usize) -> usi
     whole_tiles(row, across, down, len / size)
 }
 
-fn read_says(mode: u32, depth: u32, width: u32, height: u32, len: usize, room: usize) -> u32
-    ensures { λ r. ⌜ r ≡ readSays mode depth width height len room ⌝ }
+fn read_says(mode: u32, depth: u32, width: u32, height: u32, len: usize, space: usize) -> u32
+    ensures { λ r. ⌜ r ≡ readSays mode depth width height len space ⌝ }
 {
     let refusal = readable_says(mode, depth, width, height);
     if refusal != 0 {
@@ -685,7 +685,7 @@ fn read_says(mode: u32, depth: u32, width: u32, height: u32, len: usize, room: u
     }
     let count = read_count(mode, depth, width, height, len);
     let n = (width * height) as usize;
-    if room / n < count {
+    if space / n < count {
         return 11;
     }
     if 65535 < count {
@@ -748,7 +748,7 @@ fn put_rows(cells: &[u8], width: usize, height: usize, out: &mut [u8], at: usize
 }
 
 // The tiles, one after the other.
-fn put_tiles(
+fn put_read(
     mode: u32,
     depth: u32,
     width: u32,
@@ -801,7 +801,7 @@ pub fn read(
         };
     }
     let count = read_count(mode, depth, width, height, bytes.len()) as u32;
-    put_tiles(mode, depth, width, height, bytes, count, store);
+    put_read(mode, depth, width, height, bytes, count, store);
     SetAnswer {
         refusal: 0,
         set: Set {

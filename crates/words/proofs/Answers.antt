@@ -8,11 +8,11 @@ use native.Mathlib.Nat.{suc-ne-zero}
 use lib.Dec.{ltb}
 use lib.ListN.{length, getD}
 use borrow.Author.Tests.{lt-ltb, le-ltb}
-use Rattle.words.specs.Answers.{_when_, lowest, unless, written, numbered, overwrite, Wrote}
+use Rattle.words.specs.Answers.{_when_, firstApplying, unless, written, numbered, overwrite, Wrote}
 use Rattle.words.specs.declared.Written.{Written}
 
 -- nothing was refused: every check passed
-pub all-passed : (ns : List ℕ) → lowest ns ≡ 0 → (k : ℕ) → getD ns k 0 ≡ 0
+pub all-passed : (ns : List ℕ) → firstApplying ns ≡ 0 → (k : ℕ) → getD ns k 0 ≡ 0
 all-passed [] e k = refl
 all-passed (zero ∷ ns) e zero = refl
 all-passed (zero ∷ ns) e (suc k) = all-passed ns e k
@@ -24,25 +24,25 @@ not-given n true e = absurd (suc-ne-zero n e)
 not-given n false e = refl
 
 -- the first number is given where there is one
-pub first-given : (n : ℕ) {k : ℕ} (ns : List ℕ) → n ≡ k → (n ≡ 0 → ⊥) → n ≡ lowest (k ∷ ns)
+pub first-given : (n : ℕ) {k : ℕ} (ns : List ℕ) → n ≡ k → (n ≡ 0 → ⊥) → n ≡ firstApplying (k ∷ ns)
 first-given n {k = zero} ns e h = absurd (h e)
 first-given n {k = suc k} ns e h = e
 
-pub last-given : (n : ℕ) → n ≡ lowest (n ∷ [])
+pub last-given : (n : ℕ) → n ≡ firstApplying (n ∷ [])
 last-given zero = refl
 last-given (suc n) = refl
 
 -- checks that end with the room: n is the lowest of those before
-pub before-room : (n room size : ℕ) {k : ℕ} → n ≡ k → (n ≡ 0 → ⊥) → n ≡ lowest (k ∷ 11 when ltb room size ∷ [])
-before-room n room size e h = first-given n (11 when ltb room size ∷ []) e h
+pub before-space : (n space size : ℕ) {k : ℕ} → n ≡ k → (n ≡ 0 → ⊥) → n ≡ firstApplying (k ∷ 11 when ltb space size ∷ [])
+before-space n space size e h = first-given n (11 when ltb space size ∷ []) e h
 
-pub no-room : (n room size : ℕ) → n ≡ 0 → room < size → 11 ≡ lowest (n ∷ 11 when ltb room size ∷ [])
-no-room zero room size e h = rw (lt-ltb room size h)
-no-room (suc n) room size e h = absurd (suc-ne-zero n e)
+pub no-space : (n space size : ℕ) → n ≡ 0 → space < size → 11 ≡ firstApplying (n ∷ 11 when ltb space size ∷ [])
+no-space zero space size e h = rw (lt-ltb space size h)
+no-space (suc n) space size e h = absurd (suc-ne-zero n e)
 
-pub room-left : (n room size : ℕ) → n ≡ 0 → size ≤ room → lowest (n ∷ 11 when ltb room size ∷ []) ≡ 0
-room-left zero room size e h = rw (le-ltb room size h)
-room-left (suc n) room size e h = absurd (suc-ne-zero n e)
+pub space-left : (n space size : ℕ) → n ≡ 0 → size ≤ space → firstApplying (n ∷ 11 when ltb space size ∷ []) ≡ 0
+space-left zero space size e h = rw (le-ltb space size h)
+space-left (suc n) space size e h = absurd (suc-ne-zero n e)
 
 pub when-done : {A : Type 0} (n : ℕ) (a b : A) → n ≡ 0 → unless n a b ≡ a
 when-done zero a b e = refl

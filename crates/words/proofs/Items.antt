@@ -48,7 +48,7 @@ module _ (k : ℕ) (f : ℕ → List ℕ) (size : (i : ℕ) → length (f i) ≡
   item-at (suc n) i lt =
       ⊎-elim
       (λ q. rw (← q, drop-at (each i f) (f i) (i * k) (length-each i k f size)) (take-all k (f i) (omega (arith, size i))))
-      (λ l. let room = item-inside k n i l in
+      (λ l. let space = item-inside k n i l in
       let len = length-each n k f size in
       let inside : i * k ≤ length (each n f) = omega arith in
       let enough : k ≤ length (drop (i * k) (each n f)) = omega (arith, length-drop (i * k) (each n f)) in
@@ -62,7 +62,7 @@ module _ (k : ℕ) (f : ℕ → List ℕ) (size : (i : ℕ) → length (f i) ≡
 
   -- the bytes of one more item, put where those before it end
   pub put-item : (i : ℕ) (l : List ℕ) → i * k + k ≤ length l → sets (each i f ++ drop (i * k) l) (i * k) (f i) ≡ each (i + 1) f ++ drop ((i + 1) * k) l
-  put-item i l room = rw (← item-end k i, add-one i) (put-next (each i f) (f i) l (i * k) k (length-each i k f size) (size i) room)
+  put-item i l space = rw (← item-end k i, add-one i) (put-next (each i f) (f i) l (i * k) k (length-each i k f size) (size i) space)
 
 -- a list is its parts
 pub parts : (k n : ℕ) (l : List ℕ) → n * k ≤ length l → each n (λ i. take k (drop (i * k) l)) ≡ take (n * k) l

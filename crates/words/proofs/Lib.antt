@@ -2,6 +2,8 @@ pub mod Answers
 pub mod Bits
 pub mod Bytes
 pub mod Fields
+pub mod Filling
 pub mod Items
 pub mod Loops
+pub mod Order
 pub mod Results

@@ -1,7 +1,7 @@
 -- The laws of counted loops: a computed test over every number below n, and the bytes of items put one after the other.
 -- Assumes nothing.
 use mathlib.Core.Path.{_≡_, refl, sym, ap, _∙_, subst}
-use mathlib.Core.Bool.{Bool, true, false, _&&_, _||_}
+use mathlib.Core.Bool.{Bool, true, false, cond, _&&_, _||_}
 use mathlib.Core.List.{List, _++_, append-assoc}
 use mathlib.Core.Logic.{⊎-elim}
 use Prim.Native.Nat.{ℕ, zero, suc, _+_, _*_, _<_, _≤_}
@@ -33,6 +33,11 @@ pub and-false : (a : Bool) → (a && false) ≡ false
 and-false true = refl
 and-false false = refl
 
+-- what holds of both holds of either
+pub either : {A : Type 0} (P : A → Type 0) (b : Bool) (x y : A) → P x → P y → P (cond b x y)
+either P true x y p q = p
+either P false x y p q = q
+
 -- a test that is computed over every number below n, as a rule at each
 pub all-at : (n : ℕ) (f : ℕ → Bool) → T (all n f) → (k : ℕ) → k < n → T (f k)
 all-at zero f t k h = absurd (not-suc-le-zero h)
@@ -55,7 +60,7 @@ sets-front l bytes h = sets-eq bytes l 0 (omega arith) ∙ rw zero-add
 
 -- the bytes of one more item, put where those before it end
 pub put-next : (e vs l : List ℕ) (at k : ℕ) → length e ≡ at → length vs ≡ k → at + k ≤ length l → sets (e ++ drop at l) at vs ≡ (e ++ vs) ++ drop (at + k) l
-put-next e vs l at k he hv room =
+put-next e vs l at k he hv space =
     let x = e ++ drop at l in
     let fits : at + length vs ≤ length x = omega (arith, length-append e (drop at l), length-drop at l) in
     let tail : drop (at + length vs) x ≡ drop (at + k) l =

@@ -1,6 +1,6 @@
 -- What a call answers, and what it leaves in lent bytes.
 -- Assumes nothing.
-use Prim.Native.Nat.{ℕ, zero, suc}
+use Prim.Native.Nat.{ℕ, zero, suc, min}
 use mathlib.Core.Path.{_≡_}
 use mathlib.Core.Bool.{Bool, cond}
 use mathlib.Core.List.{List, [], _∷_, _++_}
@@ -13,11 +13,22 @@ infix 80 _when_
 abbrev pub _when_ : ℕ → Bool → ℕ
 n when b = cond b n 0
 
--- "Where several apply, the lowest number is given": a call's checks stand in the order of their numbers, and the first that applies is answered.
+-- A call's checks stand in one list, in the order of their numbers, and the first that applies is answered.
+abbrev pub firstApplying : List ℕ → ℕ
+firstApplying [] = 0
+firstApplying (zero ∷ ns) = firstApplying ns
+firstApplying (suc n ∷ ns) = suc n
+
+-- "Where several apply, the lowest number is given": of some numbers, where 0 stands for a check that does not apply. That the first is the lowest,
+-- for every call's list, is proved (promises, Lowest).
+abbrev pub lower : ℕ → ℕ → ℕ
+lower zero k = k
+lower (suc n) zero = suc n
+lower (suc n) (suc k) = min (suc n) (suc k)
+
 abbrev pub lowest : List ℕ → ℕ
 lowest [] = 0
-lowest (zero ∷ ns) = lowest ns
-lowest (suc n ∷ ns) = suc n
+lowest (n ∷ ns) = lower n (lowest ns)
 
 -- One thing where a call is not refused, another where it is.
 abbrev pub unless : {A : Type 0} → ℕ → A → A → A

@@ -76,9 +76,9 @@ returns-3 c =
     let a = c .before .before .before .before .before .before .before .before .before .before .before .before .before .args in
     let l = c .before .before .before .before .before .before .before .before .before .layout-of in
     let bytes = packed (a .mode) (now (a .colors)) in
-    let room : length bytes ≤ length (now (a .out)) = omega (arith, passed (c .before .before .before .before .before .before .before) .fits, sized (c .before .before .before .before .before .before), c .before .before .before .before .before .before .packed-size .ensures) in
+    let space : length bytes ≤ length (now (a .out)) = omega (arith, passed (c .before .before .before .before .before .before .before) .fits, sized (c .before .before .before .before .before .before), c .before .before .before .before .before .before .packed-size .ensures) in
     done (none-due (c .before .before .before .before .before .before .before)) (ap (λ (n : ℕ). written 0 n) (sized (c .before .before .before .before .before .before)))
-    (c .before .before .put-word .ensures ∙ rw (c .before .before .before .four-word .ensures, packs-four (a .mode) (omega arith) (now (a .colors)) (l .result) (l .ensures .0) (c .before .before .before .before .before .if3 .taken)) (sets-front (now (a .out)) bytes room))
+    (c .before .before .put-word .ensures ∙ rw (c .before .before .before .four-word .ensures, packs-four (a .mode) (omega arith) (now (a .colors)) (l .result) (l .ensures .0) (c .before .before .before .before .before .if3 .taken)) (sets-front (now (a .out)) bytes space))
 
 put-words-requires : tie.Need-put-words-requires
 put-words-requires c κs =

@@ -60,12 +60,12 @@ loop-again c =
     let a = s .args in
     let i = c .before .before .before .before .before .before .before .loop .i in
     let inv = c .before .before .before .before .before .before .before .loop .inv in
-    let room : i * 4 + 4 ≤ length (now (a .out)) = omega (arith, s .pre .2) in (
+    let space : i * 4 + 4 ≤ length (now (a .out)) = omega (arith, s .pre .2) in (
       omega arith,
       rw (inv .1) (item-end (a .l .size) i),
       rw (inv .2) (item-end 4 i),
       c .before .before .before .put-color-from .kept .1 .1 .0 ∙ inv .3,
-      c .before .before .before .put-color-from .ensures ∙ rw (inv .4, inv .2, c .before .before .before .before .before .get-word .ensures .0, inv .1) (put-item 4 (λ k. colorFrom (a .l) (wordFrom (a .l) (now (a .bytes)) (k * a .l .size))) (λ k. length-from (a .l) (wordFrom (a .l) (now (a .bytes)) (k * a .l .size))) i (now (a .out)) room),
+      c .before .before .before .put-color-from .ensures ∙ rw (inv .4, inv .2, c .before .before .before .before .before .get-word .ensures .0, inv .1) (put-item 4 (λ k. colorFrom (a .l) (wordFrom (a .l) (now (a .bytes)) (k * a .l .size))) (λ k. length-from (a .l) (wordFrom (a .l) (now (a .bytes)) (k * a .l .size))) i (now (a .out)) space),
     )
 
 same-length : tie.Need-same-length Inv-loop μ-loop

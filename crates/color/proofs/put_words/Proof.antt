@@ -56,11 +56,11 @@ loop-again c =
     let i = c .before .before .before .before .before .before .before .loop .i in
     let inv = c .before .before .before .before .before .before .before .loop .inv in
     let inside = item-inside (a .l .size) (a .n) i (c .before .before .before .before .before .before .loop-test .taken) in
-    let room : i * a .l .size + a .l .size ≤ length (now (a .out)) = omega (arith, s .pre .2) in (
+    let space : i * a .l .size + a .l .size ≤ length (now (a .out)) = omega (arith, s .pre .2) in (
       omega arith,
       rw (inv .1) (item-end (a .l .size) i),
       c .before .before .before .put-word .kept .0 ∙ inv .2,
-      c .before .before .before .put-word .ensures ∙ rw (inv .3, inv .1, c .before .before .before .before .before .color-word .ensures) (put-item (a .l .size) (colorBytes (a .l) (now (a .colors))) (λ j. length-bytes (a .l .size) (a .l .most) (colorWord (a .l) (now (a .colors)) j)) i (now (a .out)) room),
+      c .before .before .before .put-word .ensures ∙ rw (inv .3, inv .1, c .before .before .before .before .before .color-word .ensures) (put-item (a .l .size) (colorBytes (a .l) (now (a .colors))) (λ j. length-bytes (a .l .size) (a .l .most) (colorWord (a .l) (now (a .colors)) j)) i (now (a .out)) space),
     )
 
 same-length : tie.Need-same-length Inv-loop μ-loop

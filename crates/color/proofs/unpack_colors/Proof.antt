@@ -27,8 +27,8 @@ none-due c =
     sym (unpacks-says (a .mode) (omega arith) (now (a .bytes)) (c .before .before .layout-of .result) (c .before .before .layout-of .ensures .0) (length (now (a .out)))) ∙ sym (c .before .unpack-says .ensures) ∙ c .if2 .left
 
 -- the colours have room
-room : (c : tie.After-color-count) → 4 * c .color-count .result ≤ length (now (c .before .before .before .before .before .before .before .args .out))
-room c = rw (c .color-count .ensures) (passed (c .before) .fits)
+space : (c : tie.After-color-count) → 4 * c .color-count .result ≤ length (now (c .before .before .before .before .before .before .before .args .out))
+space c = rw (c .color-count .ensures) (passed (c .before) .fits)
 
 sized : (c : tie.After-color-count) → c .color-count .result * 4 ≡ length (unpacked (c .before .before .before .before .before .before .before .args .mode) (now (c .before .before .before .before .before .before .before .args .bytes)))
 sized c =
@@ -75,7 +75,7 @@ put-four-requires c κs =
     (c .before .before .before .before .before .before .layout-of .ensures .1, fits)
 
 mul-t15 : tie.Need-mul-t15
-mul-t15 c = omega (arith, room (c .before .before .before .before .before .before), c .before .before .before .before .before .before .before .before .before .before .before .before .before .good)
+mul-t15 c = omega (arith, space (c .before .before .before .before .before .before), c .before .before .before .before .before .before .before .before .before .before .before .before .before .good)
 
 same-length : tie.Need-same-length
 same-length c = search needs
@@ -94,10 +94,10 @@ put-colors-requires c κs =
     let a = c .before .before .before .before .before .before .before .before .before .args in
     let l = c .before .before .before .before .before .layout-of in
     let n : c .before .before .color-count .result ≡ length (now (a .bytes)) / l .result .size = rw (c .before .if3 .left) at (c .before .before .color-count .ensures) in
-    (l .ensures .1, rw n (div-mul-le-self (length (now (a .bytes))) (l .result .size)), omega (arith, room (c .before .before)))
+    (l .ensures .1, rw n (div-mul-le-self (length (now (a .bytes))) (l .result .size)), omega (arith, space (c .before .before)))
 
 mul-t11 : tie.Need-mul-t11
-mul-t11 c = omega (arith, room (c .before .before .before .before .before), c .before .before .before .before .before .before .before .before .before .before .before .before .good)
+mul-t11 c = omega (arith, space (c .before .before .before .before .before), c .before .before .before .before .before .before .before .before .before .before .before .before .good)
 
 same-length-2 : tie.Need-same-length-2
 same-length-2 c = search needs

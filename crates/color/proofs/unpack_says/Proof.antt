@@ -21,13 +21,13 @@ color-count-requires c κs = search needs
 returns-2 : tie.Need-returns-2
 unfolding unpackChecks
 returns-2 c =
-    let short : c .before .before .before .before .args .room < 4 * c .before .color-count .result = omega arith in
+    let short : c .before .before .before .before .args .space < 4 * c .before .color-count .result = omega arith in
     rw (← c .before .before .before .can-unpack .ensures, not-false (c .before .before .before .can-unpack .result) (c .before .before .if1 .left), ← c .before .color-count .ensures, lt-ltb _ _ short)
 
 returns-3 : tie.Need-returns-3
 unfolding unpackChecks
 returns-3 c =
-    let enough : 4 * c .before .color-count .result ≤ c .before .before .before .before .args .room = omega arith in
+    let enough : 4 * c .before .color-count .result ≤ c .before .before .before .before .args .space = omega arith in
     rw (← c .before .before .before .can-unpack .ensures, not-false (c .before .before .before .can-unpack .result) (c .before .before .if1 .left), ← c .before .color-count .ensures, le-ltb _ _ enough)
 
 pub unpack-says-spec : {M : Type 1} → statement M

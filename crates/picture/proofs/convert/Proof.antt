@@ -38,8 +38,8 @@ returns c =
     let a = c .before .before .asked-says in
     refused-picture (a .result) (convert-asked _ _ _ _ (a .result) (a .ensures) (c .before .if1 .taken)) (c .before .if1 .taken) (c .no-picture .ensures) refl refl
 
-room-of-requires : tie.Need-room-of-requires
-room-of-requires c κs = (sized c .mode, sized c .shallow, sized c .deep)
+picture-room-requires : tie.Need-picture-room-requires
+picture-room-requires c κs = (sized c .mode, sized c .shallow, sized c .deep)
 
 slice-aggregate-gather : tie.Need-slice-aggregate-gather
 slice-aggregate-gather c = search needs
@@ -48,7 +48,7 @@ gather-requires : tie.Need-gather-requires
 gather-requires c κs =
     record {
       picture = picture (c .before .before .before);
-      most = omega (arith, c .before .before .room-of .ensures, room-most (c .before .before .before .before .before .before .before .before .args .settings) (length (now (c .before .before .before .before .before .before .before .before .args .tiles))) (sized (c .before .before .before) .mode));
+      most = omega (arith, c .before .before .picture-room .ensures, room-most (c .before .before .before .before .before .before .before .before .args .settings) (length (now (c .before .before .before .before .before .before .before .before .args .tiles))) (sized (c .before .before .before) .mode));
       long = subst (λ (n : ℕ). 4096 ≤ n) (sym (length-replicate {A = ℕ} 4096 0)) (le-refl 4096);
     }
 
@@ -65,7 +65,7 @@ returns-2 : tie.Need-returns-2
 returns-2 c =
     let a = c .before .before .before .before .before .before .before .before .before .before .before .before .before .args in
     let full = no-room _ _ _ _ _ _ (c .before .before .before .before .gather .ensures) (c .before .enum-told .given .1) in
-    refused-picture 12 (convert-12 (a .settings) (now (a .pixels)) (length (now (a .tiles))) (length (now (a .map))) (none (c .before .before .before .before .before .before .before .before)) (omega (arith, full, c .before .before .before .before .before .before .before .room-of .ensures))) (λ e. omega arith) (c .no-picture2 .ensures) refl refl
+    refused-picture 12 (convert-12 (a .settings) (now (a .pixels)) (length (now (a .tiles))) (length (now (a .map))) (none (c .before .before .before .before .before .before .before .before)) (omega (arith, full, c .before .before .before .before .before .before .before .picture-room .ensures))) (λ e. omega arith) (c .no-picture2 .ensures) refl refl
 
 put-tiles-requires : tie.Need-put-tiles-requires
 put-tiles-requires c κs =
@@ -76,8 +76,8 @@ put-tiles-requires c κs =
       mode = s .mode;
       map = s .map;
       depth = s .depth;
-      few = omega (arith, g .within, c .before .before .before .before .before .before .before .before .before .room-of .ensures, room-most (a .settings) (length (now (a .tiles))) (s .mode));
-      room = room-bytes (a .settings) (length (now (a .tiles))) (s .shallow) (omega (arith, g .within, c .before .before .before .before .before .before .before .before .before .room-of .ensures));
+      few = omega (arith, g .within, c .before .before .before .before .before .before .before .before .before .picture-room .ensures, room-most (a .settings) (length (now (a .tiles))) (s .mode));
+      room = room-bytes (a .settings) (length (now (a .tiles))) (s .shallow) (omega (arith, g .within, c .before .before .before .before .before .before .before .before .before .picture-room .ensures));
     }
 
 mul-places : tie.Need-mul-places
@@ -93,7 +93,7 @@ put-map-requires c κs =
     record {
       few = omega (arith, few-tiles (sized (c .before .before .before .before .before .before .before .before .before .before .before .before .before .before .before .before)));
       mode = sized (c .before .before .before .before .before .before .before .before .before .before .before .before .before .before .before .before) .mode;
-      entries = entries-fit g (picture (c .before .before .before .before .before .before .before .before .before .before .before .before .before .before .before .before)) (omega (arith, c .before .before .before .before .before .before .before .before .before .before .before .before .before .before .before .room-of .ensures, room-named (a .settings) (length (now (a .tiles)))));
+      entries = entries-fit g (picture (c .before .before .before .before .before .before .before .before .before .before .before .before .before .before .before .before)) (omega (arith, c .before .before .before .before .before .before .before .before .before .before .before .before .before .before .before .picture-room .ensures, room-named (a .settings) (length (now (a .tiles)))));
       room = asked-map _ _ _ (none (c .before .before .before .before .before .before .before .before .before .before .before .before .before .before .before .before));
     }
 
@@ -139,7 +139,7 @@ returns-3 c =
     let a = c .before .before .before .before .before .before .before .before .before .before .before .before .before .before .before .before .before .before .before .before .before .before .before .before .before .before .args in
     let g = counted _ _ _ _ _ _ (c .before .before .before .before .before .before .before .before .before .before .before .before .before .before .before .before .before .gather .ensures) (c .before .before .before .before .before .before .before .before .before .before .before .before .before .before .count .given .1) in
     done-picture
-    (convert-0 (a .settings) (now (a .pixels)) (length (now (a .tiles))) (length (now (a .map))) (none (c .before .before .before .before .before .before .before .before .before .before .before .before .before .before .before .before .before .before .before .before .before)) (omega (arith, stored-need (a .settings) (now (a .pixels)), stored-count g, g .within, c .before .before .before .before .before .before .before .before .before .before .before .before .before .before .before .before .before .before .before .before .room-of .ensures)))
+    (convert-0 (a .settings) (now (a .pixels)) (length (now (a .tiles))) (length (now (a .map))) (none (c .before .before .before .before .before .before .before .before .before .before .before .before .before .before .before .before .before .before .before .before .before)) (omega (arith, stored-need (a .settings) (now (a .pixels)), stored-count g, g .within, c .before .before .before .before .before .before .before .before .before .before .before .before .before .before .before .before .before .before .before .before .picture-room .ensures)))
     (answer-is g (picture (c .before .before .before .before .before .before .before .before .before .before .before .before .before .before .before .before .before .before .before .before .before)) (c .mapentry-size .result) (c .mapentry-size .ensures))
     (c .before .before .before .before .before .before .before .before .before .before .put-tiles .ensures ∙ ap (λ (l : List ℕ). overwrite (now (a .tiles)) l) (tiles-written g))
     (c .before .before .before .before .put-map .ensures ∙ ap (λ (l : List ℕ). overwrite (now (a .map)) l) (map-written g))
@@ -151,7 +151,7 @@ convert-spec =
     asked-says-requires
     no-picture-requires
     returns
-    room-of-requires
+    picture-room-requires
     slice-aggregate-gather
     gather-requires
     enum-known-count

@@ -11,13 +11,13 @@ use Rattle.words.proofs.Items.{item-inside}
 use Rattle.words.proofs.Loops.{sets-front}
 use Rattle.picture.specs.Redrawing.{drawn}
 use Rattle.picture.specs.Inner.{stripOf}
-use Rattle.picture.proofs.Drawing.{Spreading, spread-none, spread-more, spread-all, rowOf, row-length, lines-are, rows-are, picture-length, strip-asks, row-room}
+use Rattle.picture.proofs.Drawing.{Spreading, spread-none, spread-more, spread-all, rowDrawn, row-length, lines-are, rows-are, picture-length, strip-asks, row-room}
 use borrow.Author.Needs.{needs}
 use Rattle.picture.proofs.draw.Statement.{statement}
 use Rattle.picture.proofs.draw.Tie as tie
 
 abbrev Inv-loop : tie.InvT-loop
-Inv-loop mode depth columns rows tiles map out₀ strip₀ y₀ out strip y = (y ≤ rows) × Spreading (rowOf mode depth columns tiles map) out₀ 0 y out × (length strip ≡ 4096)
+Inv-loop mode depth columns rows tiles map out₀ strip₀ y₀ out strip y = (y ≤ rows) × Spreading (rowDrawn mode depth columns tiles map) out₀ 0 y out × (length strip ≡ 4096)
 
 abbrev μ-loop : tie.MeasureT-loop
 μ-loop mode depth columns rows tiles map out₀ strip₀ y₀ out strip y = rows - y
@@ -77,7 +77,7 @@ loop-again c =
     let lp = c .before .before .before .before .before .before .before .before .before .loop in
     let strip = c .before .before .before .before .before .before .draw-strip .last .1 .1 .1 .1 .1 .1 .0 in
     let k = 8 * (a .columns * 8) in
-    let row = rowOf (a .mode) (a .depth) (a .columns) (now (a .tiles)) (now (a .map)) (lp .y) in
+    let row = rowDrawn (a .mode) (a .depth) (a .columns) (now (a .tiles)) (now (a .map)) (lp .y) in
     let lines = lines-are (a .mode) (a .depth) (a .columns) (now (a .tiles)) (now (a .map)) (lp .strip) strip (lp .y) (omega (arith, lp .inv .2, s .pre .narrow)) (c .before .before .before .before .before .before .draw-strip .ensures) in (
       omega (arith, c .before .before .before .before .before .before .before .before .loop-test .taken),
       spread-more k (row-length (a .mode) (a .depth) (a .columns) (now (a .tiles)) (now (a .map))) (lp .inv .1)

@@ -22,23 +22,23 @@ abbrev μ-loop : tie.MeasureT-loop
 loop-holds : tie.Need-loop-holds Inv-loop μ-loop
 loop-holds c = (omega arith, spread-none _ _ _)
 
-mul-put-row : tie.Need-mul-put-row Inv-loop μ-loop
-mul-put-row c = omega (arith, c .before .before .before .before .pre .1 .narrow)
+mul-put-eight : tie.Need-mul-put-eight Inv-loop μ-loop
+mul-put-eight c = omega (arith, c .before .before .before .before .pre .1 .narrow)
 
-mul-put-row-2 : tie.Need-mul-put-row-2 Inv-loop μ-loop
-mul-put-row-2 c = omega (arith, c .before .before .before .before .pre .0)
+mul-put-eight-2 : tie.Need-mul-put-eight-2 Inv-loop μ-loop
+mul-put-eight-2 c = omega (arith, c .before .before .before .before .pre .0)
 
-add-put-row : tie.Need-add-put-row Inv-loop μ-loop
-add-put-row c = omega (arith, c .before .before .before .before .pre .0, c .before .before .before .before .pre .1 .narrow)
+add-put-eight : tie.Need-add-put-eight Inv-loop μ-loop
+add-put-eight c = omega (arith, c .before .before .before .before .pre .0, c .before .before .before .before .pre .1 .narrow)
 
-mul-put-row-3 : tie.Need-mul-put-row-3 Inv-loop μ-loop
-mul-put-row-3 c = omega (arith, c .before .before .before .before .before .pre .1 .narrow)
+mul-put-eight-3 : tie.Need-mul-put-eight-3 Inv-loop μ-loop
+mul-put-eight-3 c = omega (arith, c .before .before .before .before .before .pre .1 .narrow)
 
-add-put-row-2 : tie.Need-add-put-row-2 Inv-loop μ-loop
-add-put-row-2 c = omega (arith, c .before .before .before .before .before .pre .1 .room)
+add-put-eight-2 : tie.Need-add-put-eight-2 Inv-loop μ-loop
+add-put-eight-2 c = omega (arith, c .before .before .before .before .before .pre .1 .room)
 
-put-row-requires : tie.Need-put-row-requires Inv-loop μ-loop
-put-row-requires c κs =
+put-eight-requires : tie.Need-put-eight-requires Inv-loop μ-loop
+put-eight-requires c κs =
     let p = c .before .before .before .before .before .pre in
     (omega arith, omega (arith, p .0, p .1 .long, c .before .loop-test .taken), omega (arith, p .1 .room, c .before .loop-test .taken, c .before .before .loop .inv .1 .long))
 
@@ -55,7 +55,7 @@ loop-again c =
     let strip = now (a .strip) in (
       omega arith,
       spread-more 8 (λ x. length-ones 8 (λ j. getD strip (x * 64 + a .y * 8 + j) 0)) (lp .inv .1)
-          (c .before .before .put-row .ensures ∙ ap (λ (l : List ℕ). sets (lp .out) (a .at + lp .x * 8) l) (row-whole strip (lp .x * 64 + a .y * 8) (λ i. omega (arith, c .before .before .before .before .before .before .before .shared-slice-known .given i)))),
+          (c .before .before .put-eight .ensures ∙ ap (λ (l : List ℕ). sets (lp .out) (a .at + lp .x * 8) l) (row-whole strip (lp .x * 64 + a .y * 8) (λ i. omega (arith, c .before .before .before .before .before .before .before .shared-slice-known .given i)))),
     )
 
 same-length : tie.Need-same-length Inv-loop μ-loop
@@ -71,12 +71,12 @@ put-line-spec =
     Inv-loop
     μ-loop
     loop-holds
-    mul-put-row
-    mul-put-row-2
-    add-put-row
-    mul-put-row-3
-    add-put-row-2
-    put-row-requires
+    mul-put-eight
+    mul-put-eight-2
+    add-put-eight
+    mul-put-eight-3
+    add-put-eight-2
+    put-eight-requires
     add-x
     loop-less
     loop-again

@@ -3,14 +3,14 @@ use Prim.Native.Nat.{_≤_, _-_, _*_}
 use native.Mathlib.Omega.{arith}
 use denote.Ref.{now}
 use Rattle.words.proofs.Items.{item-inside}
-use Rattle.picture.specs.Inner.{lineOf}
+use Rattle.picture.specs.Inner.{pixelLine}
 use Rattle.picture.proofs.Drawing.{Spreading, spread-none, spread-more, spread-all, line-length}
 use borrow.Author.Needs.{needs}
 use Rattle.picture.proofs.put_lines.Statement.{statement}
 use Rattle.picture.proofs.put_lines.Tie as tie
 
 abbrev Inv-loop : tie.InvT-loop
-Inv-loop strip columns out₀ at y₀ out y = (y ≤ 8) × Spreading (lineOf strip columns) out₀ at y out
+Inv-loop strip columns out₀ at y₀ out y = (y ≤ 8) × Spreading (pixelLine strip columns) out₀ at y out
 
 abbrev μ-loop : tie.MeasureT-loop
 μ-loop strip columns out₀ at y₀ out y = 8 - y

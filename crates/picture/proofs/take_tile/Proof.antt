@@ -40,20 +40,20 @@ add-corner c = omega (arith, c .before .pre .inside)
 loop-holds : tie.Need-loop-holds Inv-loop μ-loop
 loop-holds c = (omega arith, fill-none _ _ _)
 
-mul-put-row : tie.Need-mul-put-row Inv-loop μ-loop
-mul-put-row c = omega (arith, row-there (c .before .before .before .pre) (c .before .loop .y) (c .loop-test .taken))
+mul-put-eight : tie.Need-mul-put-eight Inv-loop μ-loop
+mul-put-eight c = omega (arith, row-there (c .before .before .before .pre) (c .before .loop .y) (c .loop-test .taken))
 
-add-put-row : tie.Need-add-put-row Inv-loop μ-loop
-add-put-row c = omega (arith, row-there (c .before .before .before .pre) (c .before .loop .y) (c .loop-test .taken))
+add-put-eight : tie.Need-add-put-eight Inv-loop μ-loop
+add-put-eight c = omega (arith, row-there (c .before .before .before .pre) (c .before .loop .y) (c .loop-test .taken))
 
-slice-aggregate-put-row : tie.Need-slice-aggregate-put-row Inv-loop μ-loop
-slice-aggregate-put-row c = search needs
+slice-aggregate-put-eight : tie.Need-slice-aggregate-put-eight Inv-loop μ-loop
+slice-aggregate-put-eight c = search needs
 
-mul-put-row-2 : tie.Need-mul-put-row-2 Inv-loop μ-loop
-mul-put-row-2 c = search needs
+mul-put-eight-2 : tie.Need-mul-put-eight-2 Inv-loop μ-loop
+mul-put-eight-2 c = search needs
 
-put-row-requires : tie.Need-put-row-requires Inv-loop μ-loop
-put-row-requires c κs = (c .before .before .before .before .pre .deep, omega (arith, row-there (c .before .before .before .before .pre) (c .before .before .loop .y) (c .before .loop-test .taken)), omega (arith, c .before .before .loop .inv .1 .long))
+put-eight-requires : tie.Need-put-eight-requires Inv-loop μ-loop
+put-eight-requires c κs = (c .before .before .before .before .pre .deep, omega (arith, row-there (c .before .before .before .before .pre) (c .before .before .loop .y) (c .before .loop-test .taken)), omega (arith, c .before .before .loop .inv .1 .long))
 
 add-y : tie.Need-add-y Inv-loop μ-loop
 add-y c = search needs
@@ -64,7 +64,7 @@ loop-less c = search needs
 loop-again : tie.Need-loop-again Inv-loop μ-loop
 loop-again c =
     let a = c .before .before .before .before .before .before .args in
-    (omega arith, fill-more (row-length (a .depth) (a .columns) (now (a .pixels)) (a .i)) (c .before .before .before .before .loop .inv .1) (omega arith) (c .before .put-row .ensures))
+    (omega arith, fill-more (row-length (a .depth) (a .columns) (now (a .pixels)) (a .i)) (c .before .before .before .before .loop .inv .1) (omega arith) (c .before .put-eight .ensures))
 
 returns : tie.Need-returns Inv-loop μ-loop
 returns c =
@@ -85,11 +85,11 @@ take-tile-spec =
     mul-corner-3
     add-corner
     loop-holds
-    mul-put-row
-    add-put-row
-    slice-aggregate-put-row
-    mul-put-row-2
-    put-row-requires
+    mul-put-eight
+    add-put-eight
+    slice-aggregate-put-eight
+    mul-put-eight-2
+    put-eight-requires
     add-y
     loop-less
     loop-again

@@ -23,7 +23,7 @@ tile-says-requires c κs = search needs
 returns : tie.Need-returns
 returns c =
     let a = c .before .before .before .args in
-    pack-first (a .mode) (a .depth) (a .width) (a .height) (a .pixels .now) (a .room) _ (c .before .tile-says .ensures) (c .if1 .taken)
+    pack-first (a .mode) (a .depth) (a .width) (a .height) (a .pixels .now) (a .space) _ (c .before .tile-says .ensures) (c .if1 .taken)
 
 mul-size : tie.Need-mul-size
 mul-size c = omega (arith, fits c .few)
@@ -34,7 +34,7 @@ cast-if2 c = omega (arith, fits c .few)
 returns-2 : tie.Need-returns-2
 returns-2 c =
     let a = c .before .before .before .before .args in
-    pack-7 (a .mode) (a .depth) (a .width) (a .height) (a .pixels .now) (a .room) (allowed (c .before)) (c .if2 .taken)
+    pack-7 (a .mode) (a .depth) (a .width) (a .height) (a .pixels .now) (a .space) (allowed (c .before)) (c .if2 .taken)
 
 some-too-large-requires : tie.Need-some-too-large-requires
 some-too-large-requires c κs = fits (c .before) .deep
@@ -42,7 +42,7 @@ some-too-large-requires c κs = fits (c .before) .deep
 returns-3 : tie.Need-returns-3
 returns-3 c =
     let a = c .before .before .before .before .before .before .args in
-    pack-8 (a .mode) (a .depth) (a .width) (a .height) (a .pixels .now) (a .room) (allowed (c .before .before .before)) (c .before .before .if2 .left) (sym (c .before .some-too-large .ensures) ∙ c .if3 .taken)
+    pack-8 (a .mode) (a .depth) (a .width) (a .height) (a .pixels .now) (a .space) (allowed (c .before .before .before)) (c .before .before .if2 .left) (sym (c .before .some-too-large .ensures) ∙ c .if3 .taken)
 
 mul-if4 : tie.Need-mul-if4
 mul-if4 c = omega (arith, fits (c .before .before .before) .small)
@@ -53,12 +53,12 @@ cast-if4 c = omega (arith, fits (c .before .before .before) .small)
 returns-4 : tie.Need-returns-4
 returns-4 c =
     let a = c .before .before .before .before .before .before .before .args in
-    pack-11 (a .mode) (a .depth) (a .width) (a .height) (a .pixels .now) (a .room) (allowed (c .before .before .before .before)) (c .before .before .before .if2 .left) (sym (c .before .before .some-too-large .ensures) ∙ c .before .if3 .left) (c .if4 .taken)
+    pack-11 (a .mode) (a .depth) (a .width) (a .height) (a .pixels .now) (a .space) (allowed (c .before .before .before .before)) (c .before .before .before .if2 .left) (sym (c .before .before .some-too-large .ensures) ∙ c .before .if3 .left) (c .if4 .taken)
 
 returns-5 : tie.Need-returns-5
 returns-5 c =
     let a = c .before .before .before .before .before .before .before .args in
-    pack-0 (a .mode) (a .depth) (a .width) (a .height) (a .pixels .now) (a .room) (allowed (c .before .before .before .before)) (c .before .before .before .if2 .left) (sym (c .before .before .some-too-large .ensures) ∙ c .before .if3 .left) (c .if4 .left)
+    pack-0 (a .mode) (a .depth) (a .width) (a .height) (a .pixels .now) (a .space) (allowed (c .before .before .before .before)) (c .before .before .before .if2 .left) (sym (c .before .before .some-too-large .ensures) ∙ c .before .if3 .left) (c .if4 .left)
 
 pub pack-says-spec : {M : Type 1} → statement M
 pack-says-spec =

@@ -8,7 +8,7 @@ use lib.ListN.{getD}
 use borrow.Author.Needs.{needs}
 use Rattle.tile.specs.Bits.{bitOf}
 use Rattle.tile.specs.Packings.{planar}
-use Rattle.tile.proofs.Bits.{bit-lt, Rising, rising-none, rising-room, rising-more, rising-all}
+use Rattle.tile.proofs.Bits.{bit-lt, Rising, rising-none, rising-space, rising-more, rising-all}
 use Rattle.tile.proofs.planar_pixel.Statement.{statement}
 use Rattle.tile.proofs.planar_pixel.Tie as tie
 
@@ -40,7 +40,7 @@ planar-place-requires : tie.Need-planar-place-requires Inv-loop μ-loop
 planar-place-requires c κs = search needs
 
 mul-v : tie.Need-mul-v Inv-loop μ-loop
-mul-v c = omega (arith, rising-room (c .before .before .loop .inv) (c .before .loop-test .taken) (omega arith))
+mul-v c = omega (arith, rising-space (c .before .before .loop .inv) (c .before .loop-test .taken) (omega arith))
 
 shared-slice-read-v : tie.Need-shared-slice-read-v Inv-loop μ-loop
 shared-slice-read-v c = search needs
@@ -52,7 +52,7 @@ shr-v : tie.Need-shr-v Inv-loop μ-loop
 shr-v c = search needs
 
 add-v : tie.Need-add-v Inv-loop μ-loop
-add-v c = omega (arith, rising-room (c .before .before .before .loop .inv) (c .before .before .loop-test .taken) (omega arith))
+add-v c = omega (arith, rising-space (c .before .before .before .loop .inv) (c .before .before .loop-test .taken) (omega arith))
 
 add-n : tie.Need-add-n Inv-loop μ-loop
 add-n c = search needs

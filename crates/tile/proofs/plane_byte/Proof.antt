@@ -9,7 +9,7 @@ use lib.ListN.{getD}
 use borrow.Author.Needs.{needs}
 use Rattle.tile.specs.Bits.{bitOf}
 use Rattle.tile.specs.Inner.{columnOf}
-use Rattle.tile.proofs.Bits.{bit-lt, Rising, rising-none, rising-room, rising-more, rising-all}
+use Rattle.tile.proofs.Bits.{bit-lt, Rising, rising-none, rising-space, rising-more, rising-all}
 use Rattle.tile.proofs.plane_byte.Statement.{statement}
 use Rattle.tile.proofs.plane_byte.Tie as tie
 
@@ -36,7 +36,7 @@ column-requires : tie.Need-column-requires Inv-loop μ-loop
 column-requires c κs = search needs
 
 mul-b : tie.Need-mul-b Inv-loop μ-loop
-mul-b c = omega (arith, rising-room (c .before .before .loop .inv) (c .before .loop-test .taken) (omega arith))
+mul-b c = omega (arith, rising-space (c .before .before .loop .inv) (c .before .loop-test .taken) (omega arith))
 
 add-b : tie.Need-add-b Inv-loop μ-loop
 add-b c = search needs
@@ -51,7 +51,7 @@ shr-b : tie.Need-shr-b Inv-loop μ-loop
 shr-b c = search needs
 
 add-b-2 : tie.Need-add-b-2 Inv-loop μ-loop
-add-b-2 c = omega (arith, rising-room (c .before .before .before .loop .inv) (c .before .before .loop-test .taken) (omega arith))
+add-b-2 c = omega (arith, rising-space (c .before .before .before .loop .inv) (c .before .before .loop-test .taken) (omega arith))
 
 add-n : tie.Need-add-n Inv-loop μ-loop
 add-n c = search needs

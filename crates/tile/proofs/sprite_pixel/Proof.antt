@@ -8,7 +8,7 @@ use lib.ListN.{getD}
 use borrow.Author.Needs.{needs}
 use Rattle.tile.specs.Bits.{bitOf}
 use Rattle.tile.specs.Packings.{spriteByte}
-use Rattle.tile.proofs.Bits.{bit-lt, Rising, rising-none, rising-room, rising-more, rising-all}
+use Rattle.tile.proofs.Bits.{bit-lt, Rising, rising-none, rising-space, rising-more, rising-all}
 use Rattle.tile.proofs.Packings.{sprite-pixel-of}
 use Rattle.tile.proofs.sprite_pixel.Statement.{statement}
 use Rattle.tile.proofs.sprite_pixel.Tie as tie
@@ -77,7 +77,7 @@ loop-holds c =
     rising-none (λ j. bit-lt (a .i % a .width % 8) (getD (a .bytes .now) (spriteByte (a .height) (a .i % a .width) (a .i / a .width) j) 0))
 
 mul-v : tie.Need-mul-v Inv-loop μ-loop
-mul-v c = omega (arith, rising-room (c .before .loop .inv) (c .loop-test .taken) (omega arith))
+mul-v c = omega (arith, rising-space (c .before .loop .inv) (c .loop-test .taken) (omega arith))
 
 sub-v : tie.Need-sub-v Inv-loop μ-loop
 sub-v c = search needs
@@ -107,7 +107,7 @@ shr-v : tie.Need-shr-v Inv-loop μ-loop
 shr-v c = search needs
 
 add-v-2 : tie.Need-add-v-2 Inv-loop μ-loop
-add-v-2 c = omega (arith, rising-room (c .before .before .loop .inv) (c .before .loop-test .taken) (omega arith))
+add-v-2 c = omega (arith, rising-space (c .before .before .loop .inv) (c .before .loop-test .taken) (omega arith))
 
 add-n : tie.Need-add-n Inv-loop μ-loop
 add-n c = search needs

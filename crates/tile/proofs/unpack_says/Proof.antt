@@ -23,7 +23,7 @@ tile-says-requires c κs = search needs
 returns : tie.Need-returns
 returns c =
     let a = c .before .before .args in
-    unpack-first (a .mode) (a .depth) (a .width) (a .height) (a .len) (a .room) _ (c .before .tile-says .ensures) (c .if1 .taken)
+    unpack-first (a .mode) (a .depth) (a .width) (a .height) (a .len) (a .space) _ (c .before .tile-says .ensures) (c .if1 .taken)
 
 mul-size : tie.Need-mul-size
 mul-size c = omega (arith, fits c .few)
@@ -37,7 +37,7 @@ cast-if2 c = omega (arith, fits c .small)
 returns-2 : tie.Need-returns-2
 returns-2 c =
     let a = c .before .before .before .args in
-    unpack-7 (a .mode) (a .depth) (a .width) (a .height) (a .len) (a .room) (allowed (c .before)) (c .if2 .taken)
+    unpack-7 (a .mode) (a .depth) (a .width) (a .height) (a .len) (a .space) (allowed (c .before)) (c .if2 .taken)
 
 cast-if3 : tie.Need-cast-if3
 cast-if3 c = omega (arith, fits (c .before) .few)
@@ -45,12 +45,12 @@ cast-if3 c = omega (arith, fits (c .before) .few)
 returns-3 : tie.Need-returns-3
 returns-3 c =
     let a = c .before .before .before .before .args in
-    unpack-11 (a .mode) (a .depth) (a .width) (a .height) (a .len) (a .room) (allowed (c .before .before)) (c .before .if2 .left) (c .if3 .taken)
+    unpack-11 (a .mode) (a .depth) (a .width) (a .height) (a .len) (a .space) (allowed (c .before .before)) (c .before .if2 .left) (c .if3 .taken)
 
 returns-4 : tie.Need-returns-4
 returns-4 c =
     let a = c .before .before .before .before .args in
-    unpack-0 (a .mode) (a .depth) (a .width) (a .height) (a .len) (a .room) (allowed (c .before .before)) (c .before .if2 .left) (c .if3 .left)
+    unpack-0 (a .mode) (a .depth) (a .width) (a .height) (a .len) (a .space) (allowed (c .before .before)) (c .before .if2 .left) (c .if3 .left)
 
 pub unpack-says-spec : {M : Type 1} → statement M
 unpack-says-spec =

@@ -7,7 +7,7 @@ use lib.ListN.{length}
 use lib.Seq.{sets}
 use denote.Ref.{now}
 use borrow.Author.Needs.{needs}
-use Rattle.tileset.specs.Sets.{roomOf, roomIn}
+use Rattle.tileset.specs.Sets.{setRoom, roomIn}
 use Rattle.tileset.specs.Finding.{cutTo}
 use Rattle.tileset.proofs.Says.{room-left}
 use Rattle.tileset.proofs.Adding.{append-full, append-done}
@@ -18,7 +18,7 @@ use Rattle.tileset.proofs.append.Tie as tie
 room-is : (c : tie.After-room) → c .room .result ≡ roomIn (c .before .before .before .before .args .set) (length (now (c .before .before .before .before .args .store)))
 room-is c =
     let a = c .before .before .before .before .args in
-    c .room .ensures ∙ ap (λ (n : ℕ). roomOf (a .set .limit) (length (now (a .store)) / n)) (c .before .before .before .before .pre .whole)
+    c .room .ensures ∙ ap (λ (n : ℕ). setRoom (a .set .limit) (length (now (a .store)) / n)) (c .before .before .before .before .pre .whole)
 
 some-pixels : (c : tie.Start) → 0 < length (now (c .args .pixels))
 some-pixels c = rw (c .pre .whole) (mul-pos (c .pre .some) (c .pre .tall))

@@ -32,7 +32,7 @@ slice-aggregate-put-tile : tie.Need-slice-aggregate-put-tile
 slice-aggregate-put-tile c = search needs
 
 put-tile-requires : tie.Need-put-tile-requires
-put-tile-requires c κs = packs-at (c .before .before .before .before .before .before .packing-of .ensures) (cell-native (c .before .before .before .before .before .before .before .before .before)) _ _ 0 _ (omega arith) (omega (arith, c .before .before .before .before .before .before .before .before .before .pre .room))
+put-tile-requires c κs = packs-at (c .before .before .before .before .before .before .packing-of .ensures) (cell-native (c .before .before .before .before .before .before .before .before .before)) _ _ 0 _ (omega arith) (omega (arith, c .before .before .before .before .before .before .before .before .before .pre .space))
 
 same-length : tie.Need-same-length
 same-length c = search needs
@@ -56,14 +56,14 @@ corner-requires c κs =
       is = c .before .before .before .tile-of .ensures;
     }
 
-cast-gather : tie.Need-cast-gather
-cast-gather c = search needs
+cast-take-block : tie.Need-cast-take-block
+cast-take-block c = search needs
 
-slice-aggregate-gather : tie.Need-slice-aggregate-gather
-slice-aggregate-gather c = search needs
+slice-aggregate-take-block : tie.Need-slice-aggregate-take-block
+slice-aggregate-take-block c = search needs
 
-gather-requires : tie.Need-gather-requires
-gather-requires c κs =
+take-block-requires : tie.Need-take-block-requires
+take-block-requires c κs =
     let s = c .before .before .before .before .before .before .before .before .before .before in
     record {
       inside = omega (arith, corner-inside (s .args .set) _ (s .pre .held) (s .pre .cells) (s .args .c) (omega (arith, c .before .before .before .before .before .before .tile-of .ensures, c .before .before .before .if1 .left)), c .before .before .corner .ensures);
@@ -75,7 +75,7 @@ slice-aggregate-put-tile-2 c = search needs
 
 put-tile-requires-2 : tie.Need-put-tile-requires-2
 put-tile-requires-2 c κs =
-    packs-at (c .before .before .before .before .before .before .before .before .before .before .before .packing-of .ensures) (cell-native (c .before .before .before .before .before .before .before .before .before .before .before .before .before .before)) _ _ 0 _ (omega (arith, ap length (c .before .before .before .gather .ensures), block-length (now (c .before .before .before .before .before .before .before .before .before .before .before .before .before .before .args .store)) (c .before .before .before .before .before .before .corner .result) (c .before .before .before .before .before .before .before .before .before .before .before .before .before .before .args .set .width))) (omega (arith, c .before .before .before .before .before .before .before .before .before .before .before .before .before .before .pre .room))
+    packs-at (c .before .before .before .before .before .before .before .before .before .before .before .packing-of .ensures) (cell-native (c .before .before .before .before .before .before .before .before .before .before .before .before .before .before)) _ _ 0 _ (omega (arith, ap length (c .before .before .before .take-block .ensures), block-length (now (c .before .before .before .before .before .before .before .before .before .before .before .before .before .before .args .store)) (c .before .before .before .before .before .before .corner .result) (c .before .before .before .before .before .before .before .before .before .before .before .before .before .before .args .set .width))) (omega (arith, c .before .before .before .before .before .before .before .before .before .before .before .before .before .before .pre .space))
 
 same-length-2 : tie.Need-same-length-2
 same-length-2 c = search needs
@@ -84,7 +84,7 @@ returns-2 : tie.Need-returns-2
 returns-2 c =
     let a = c .before .before .before .before .before .before .before .before .before .before .before .before .before .before .before .before .before .args in
     let z = a .set in
-    let there = c .before .before .before .before .before .before .gather .ensures in
+    let there = c .before .before .before .before .before .before .take-block .ensures in
     let pixels = there ∙ ap (λ (k : ℕ). block (now (a .store)) k (z .width)) (c .before .before .before .before .before .before .before .before .before .corner .ensures) ∙ cell-there z (now (a .store)) (a .c) (omega (arith, c .before .before .before .before .before .before .before .before .before .before .before .before .before .tile-of .ensures, c .before .before .before .before .before .before .before .before .before .before .if1 .left)) in
     c .before .before .put-tile2 .ensures
     ∙ ap (λ (l : List ℕ). sets (now (a .out)) (a .at) l)
@@ -101,9 +101,9 @@ put-cell-spec =
     same-length
     returns
     corner-requires
-    cast-gather
-    slice-aggregate-gather
-    gather-requires
+    cast-take-block
+    slice-aggregate-take-block
+    take-block-requires
     slice-aggregate-put-tile-2
     put-tile-requires-2
     same-length-2

@@ -8,7 +8,7 @@ use borrow.Author.Needs.{needs}
 use Rattle.tileset.specs.Writing.{cellBytes, cellsOf}
 use Rattle.tileset.proofs.Sizes.{IsSet, grid-set}
 use Rattle.tileset.proofs.Says.{held-set}
-use Rattle.tileset.proofs.Writing.{Filling, fill-none, fill-more, fill-all, held-few, cell-length, cells-room, item-room}
+use Rattle.tileset.proofs.Writing.{Filling, fill-none, fill-more, fill-all, held-few, cell-length, cells-space, item-space}
 use Rattle.tileset.proofs.put_cells.Statement.{statement}
 use Rattle.tileset.proofs.put_cells.Tie as tie
 
@@ -25,11 +25,11 @@ module _ (c : tie.Start Inv-loop μ-loop) where
   size-is : (k : ℕ) → length (cellBytes (c .args .set) (now (c .args .store)) k) ≡ c .args .set .depth * 8
   size-is = cell-length (c .args .set) _ (c .pre .0 .held) (c .pre .1) (now (c .args .store))
 
-  room : cellsOf (c .args .set) * (c .args .set .depth * 8) ≤ length (now (c .args .out))
-  room = omega (arith, cells-room (c .args .set) (now (c .args .store)) (c .pre .0 .held) (c .pre .1), c .pre .0 .room)
+  space : cellsOf (c .args .set) * (c .args .set .depth * 8) ≤ length (now (c .args .out))
+  space = omega (arith, cells-space (c .args .set) (now (c .args .store)) (c .pre .0 .held) (c .pre .1), c .pre .0 .space)
 
 here : (c : tie.In-loop Inv-loop μ-loop) → let d = c .before .before .before .before .before .before .args .set .depth in c .before .loop .c * (d * 8) + d * 8 ≤ length (now (c .before .before .before .before .before .before .args .out))
-here c = item-room (cellsOf (c .before .before .before .before .before .before .args .set)) _ _ (c .before .loop .c) (room (c .before .before .before .before .before .before)) (omega (arith, c .before .loop .inv .1 .0, c .loop-test .taken))
+here c = item-space (cellsOf (c .before .before .before .before .before .before .args .set)) _ _ (c .before .loop .c) (space (c .before .before .before .before .before .before)) (omega (arith, c .before .loop .inv .1 .0, c .loop-test .taken))
 
 cell-count-requires : tie.Need-cell-count-requires Inv-loop μ-loop
 cell-count-requires c κs = (grid-set (sound (c .before .before)) (c .before .before .pre .1), held-few (c .before .before .args .set) _ (c .before .before .pre .0 .held))
@@ -55,7 +55,7 @@ put-cell-requires c κs =
     record {
       held = s .pre .0 .held;
       cells = s .pre .1;
-      room = omega (arith, here (c .before), c .before .before .loop .inv .1 .1 .1 .long);
+      space = omega (arith, here (c .before), c .before .before .loop .inv .1 .1 .1 .long);
     }
 
 add-c : tie.Need-add-c Inv-loop μ-loop

@@ -54,10 +54,10 @@ shared-slice-read-out : tie.Need-shared-slice-read-out Inv-loop μ-loop
 shared-slice-read-out c = near (c .before)
 
 add-out-4 : tie.Need-add-out-4 Inv-loop μ-loop
-add-out-4 c = omega (arith, c .before .before .before .pre .room)
+add-out-4 c = omega (arith, c .before .before .before .pre .space)
 
 slice-write-out : tie.Need-slice-write-out Inv-loop μ-loop
-slice-write-out c = omega (arith, c .before .before .before .pre .room, c .before .before .loop .inv .1 .long, c .before .loop-test .taken)
+slice-write-out c = omega (arith, c .before .before .before .pre .space, c .before .before .loop .inv .1 .long, c .before .loop-test .taken)
 
 add-x : tie.Need-add-x Inv-loop μ-loop
 add-x c = search needs
@@ -66,7 +66,7 @@ loop-less : tie.Need-loop-less Inv-loop μ-loop
 loop-less c = search needs
 
 loop-again : tie.Need-loop-again Inv-loop μ-loop
-loop-again c = (search needs, fill-at-one (c .before .before .loop .inv .1) (omega (arith, c .before .before .before .pre .room, c .before .loop-test .taken)) refl)
+loop-again c = (search needs, fill-at-one (c .before .before .loop .inv .1) (omega (arith, c .before .before .before .pre .space, c .before .loop-test .taken)) refl)
 
 same-length : tie.Need-same-length Inv-loop μ-loop
 same-length c = search needs
@@ -74,7 +74,7 @@ same-length c = search needs
 returns : tie.Need-returns Inv-loop μ-loop
 returns c =
     let a = c .before .before .args in
-    fill-at-all {n = a .width} (λ j. refl) (c .before .loop .inv .1) (omega (arith, c .before .before .pre .room)) (omega arith)
+    fill-at-all {n = a .width} (λ j. refl) (c .before .loop .inv .1) (omega (arith, c .before .before .pre .space)) (omega arith)
 
 pub put-row-spec : {M : Type 1} → statement M
 put-row-spec =

@@ -20,7 +20,7 @@ abbrev μ-loop : tie.MeasureT-loop
 here : (c : tie.In-loop Inv-loop μ-loop) → let a = c .before .before .before .before .args in a .at + c .before .loop .y * a .width + a .width ≤ length (now (a .out))
 here c =
     let a = c .before .before .before .before .args in
-    omega (arith, item-inside (a .width) (a .height) (c .before .loop .y) (c .loop-test .taken), mul-comm (a .width) (a .height), c .before .before .before .before .pre .room)
+    omega (arith, item-inside (a .width) (a .height) (c .before .loop .y) (c .loop-test .taken), mul-comm (a .width) (a .height), c .before .before .before .before .pre .space)
 
 loop-holds : tie.Need-loop-holds Inv-loop μ-loop
 loop-holds c = (search needs, fill-at-none _ _ _ _)
@@ -37,7 +37,7 @@ put-row-requires c κs =
     record {
       across = s .pre .across;
       inside = rows-inside (s .args .width) (s .args .height) (c .before .before .loop .y) (length (now (s .args .cells))) (s .pre .down) (s .pre .inside) (c .before .loop-test .taken);
-      room = omega (arith, here (c .before), c .before .before .loop .inv .1 .long);
+      space = omega (arith, here (c .before), c .before .before .loop .inv .1 .long);
     }
 
 add-y : tie.Need-add-y Inv-loop μ-loop
@@ -55,7 +55,7 @@ same-length c = search needs
 returns : tie.Need-returns Inv-loop μ-loop
 returns c =
     let s = c .before .before .before .before in
-    fill-at-all {n = s .args .height} (row-length (s .args .width) (now (s .args .cells))) (c .before .loop .inv .1) (omega (arith, s .pre .room, mul-comm (s .args .width) (s .args .height))) (omega arith)
+    fill-at-all {n = s .args .height} (row-length (s .args .width) (now (s .args .cells))) (c .before .loop .inv .1) (omega (arith, s .pre .space, mul-comm (s .args .width) (s .args .height))) (omega arith)
 
 pub put-rows-spec : {M : Type 1} → statement M
 put-rows-spec =

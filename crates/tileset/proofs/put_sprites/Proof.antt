@@ -13,7 +13,7 @@ use Rattle.tileset.specs.Sets.{area}
 use Rattle.tileset.specs.Writing.{spriteBytes}
 use Rattle.tileset.proofs.Sizes.{IsSet}
 use Rattle.tileset.proofs.Says.{held-set}
-use Rattle.tileset.proofs.Writing.{Filling, fill-none, fill-more, fill-all, native-sprite, packs-at, packs-bytes, held-inside, sprite-length, sprites-room, item-room}
+use Rattle.tileset.proofs.Writing.{Filling, fill-none, fill-more, fill-all, native-sprite, packs-at, packs-bytes, held-inside, sprite-length, sprites-space, item-space}
 use Rattle.tileset.proofs.put_sprites.Statement.{statement}
 use Rattle.tileset.proofs.put_sprites.Tie as tie
 
@@ -33,8 +33,8 @@ module _ (c : tie.Start Inv-loop μ-loop) where
   size-is : (k : ℕ) → length (spriteBytes (c .args .set) (now (c .args .store)) k) ≡ area (c .args .set) * c .args .set .depth / 8
   size-is = sprite-length (c .args .set) _ (c .pre .0 .held) (c .pre .1) (now (c .args .store))
 
-  room : c .args .set .stored * (area (c .args .set) * c .args .set .depth / 8) ≤ length (now (c .args .out))
-  room = omega (arith, sprites-room (c .args .set) (now (c .args .store)) (c .pre .0 .held) (c .pre .1), c .pre .0 .room)
+  space : c .args .set .stored * (area (c .args .set) * c .args .set .depth / 8) ≤ length (now (c .args .out))
+  space = omega (arith, sprites-space (c .args .set) (now (c .args .store)) (c .pre .0 .held) (c .pre .1), c .pre .0 .space)
 
 bytes-are : (c : tie.After-byte-count Inv-loop μ-loop) → c .byte-count .result ≡ area (c .before .before .before .before .before .args .set) * c .before .before .before .before .before .args .set .depth / 8
 bytes-are c = c .byte-count .ensures ∙ ap byteCount (c .before .before .packing-of .ensures) ∙ fitting (sprite (c .before .before .before .before .before)) .bytes
@@ -44,13 +44,13 @@ module _ (c : tie.Then1 Inv-loop μ-loop) where
   i = c .before .before .loop .i
 
   from : i * area (c .before .before .before .before .before .before .before .before .args .set) + area (c .before .before .before .before .before .before .before .before .args .set) ≤ length (now (c .before .before .before .before .before .before .before .before .args .store))
-  from = item-room (c .before .before .before .before .before .before .before .before .args .set .stored) _ _ i (held-inside (c .before .before .before .before .before .before .before .before .args .set) _ (c .before .before .before .before .before .before .before .before .pre .0 .held)) (c .if1 .taken)
+  from = item-space (c .before .before .before .before .before .before .before .before .args .set .stored) _ _ i (held-inside (c .before .before .before .before .before .before .before .before .args .set) _ (c .before .before .before .before .before .before .before .before .pre .0 .held)) (c .if1 .taken)
 
   bytes-at : i * c .before .before .before .byte-count .result ≡ i * (area (c .before .before .before .before .before .before .before .before .args .set) * c .before .before .before .before .before .before .before .before .args .set .depth / 8)
   bytes-at = ap (λ (k : ℕ). i * k) (bytes-are (c .before .before .before))
 
   here : i * (area (c .before .before .before .before .before .before .before .before .args .set) * c .before .before .before .before .before .before .before .before .args .set .depth / 8) + area (c .before .before .before .before .before .before .before .before .args .set) * c .before .before .before .before .before .before .before .before .args .set .depth / 8 ≤ length (now (c .before .before .before .before .before .before .before .before .args .out))
-  here = item-room (c .before .before .before .before .before .before .before .before .args .set .stored) _ _ i (room (c .before .before .before .before .before .before .before .before)) (c .if1 .taken)
+  here = item-space (c .before .before .before .before .before .before .before .before .args .set .stored) _ _ i (space (c .before .before .before .before .before .before .before .before)) (c .if1 .taken)
 
 packing-of-requires : tie.Need-packing-of-requires Inv-loop μ-loop
 packing-of-requires c κs = sound (c .before .before) .mode

@@ -7,7 +7,7 @@ use denote.Ref.{now}
 use borrow.Author.Needs.{needs}
 use Rattle.tileset.specs.Reading.{readableSays, readCount, readSays, readSet}
 use Rattle.tileset.proofs.Says.{setAnswer}
-use Rattle.tileset.proofs.Reading.{readable-mode, readable-says-set, read-readable, read-room, read-few, refuse-read, done-read}
+use Rattle.tileset.proofs.Reading.{readable-mode, readable-says-set, read-readable, read-space, read-few, refuse-read, done-read}
 use Rattle.tileset.proofs.read.Statement.{statement}
 use Rattle.tileset.proofs.read.Tie as tie
 
@@ -35,8 +35,8 @@ read-count-requires c κs = (readable-says-set _ _ _ _ (readable c), readable-mo
 cast-count : tie.Need-cast-count
 cast-count c = omega (arith, few (c .before), c .read-count .ensures)
 
-put-tiles-requires : tie.Need-put-tiles-requires
-put-tiles-requires c κs =
+put-read-requires : tie.Need-put-read-requires
+put-read-requires c κs =
     let e = c .before .before in
     let a = c .before .before .before .before .before .before .args in
     record {
@@ -44,7 +44,7 @@ put-tiles-requires c κs =
       cells = readable-mode _ _ _ _ (readable e);
       few = omega (arith, few e, c .before .read-count .ensures);
       is = c .before .read-count .ensures;
-      room = rw (c .before .read-count .ensures) (read-room (a .mode) (a .depth) (a .width) (a .height) (length (now (a .bytes))) (length (now (a .store))) (accepted e));
+      space = rw (c .before .read-count .ensures) (read-space (a .mode) (a .depth) (a .width) (a .height) (length (now (a .bytes))) (length (now (a .store))) (accepted e));
     }
 
 same-length : tie.Need-same-length
@@ -54,7 +54,7 @@ returns-2 : tie.Need-returns-2
 returns-2 c =
     let a = c .before .before .before .before .before .before .before .before .before .args in
     done-read (a .mode) (a .depth) (a .width) (a .height) (a .flips) (now (a .bytes)) (now (a .store)) (accepted (c .before .before .before .before .before))
-    (ap (λ (k : ℕ). setAnswer 0 (readSet (a .mode) (a .depth) (a .width) (a .height) (a .flips) k)) (c .before .before .before .before .read-count .ensures)) (c .before .before .put-tiles .ensures)
+    (ap (λ (k : ℕ). setAnswer 0 (readSet (a .mode) (a .depth) (a .width) (a .height) (a .flips) k)) (c .before .before .before .before .read-count .ensures)) (c .before .before .put-read .ensures)
 
 pub read-spec : {M : Type 1} → statement M
 read-spec =
@@ -64,6 +64,6 @@ read-spec =
     returns
     read-count-requires
     cast-count
-    put-tiles-requires
+    put-read-requires
     same-length
     returns-2)

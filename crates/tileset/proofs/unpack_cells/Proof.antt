@@ -68,8 +68,8 @@ module _ (c : tie.In-loop Inv-loop μ-loop) where
   column-few : i % (s .args .width / 8) ≤ 64
   column-few = omega (arith, mod-le i (s .args .width / 8), few s, c .loop-test .taken)
 
-  room : i * 64 + 64 ≤ 4096
-  room = omega (arith, few s, c .loop-test .taken)
+  space : i * 64 + 64 ≤ 4096
+  space = omega (arith, few s, c .loop-test .taken)
 
 packing-of-requires : tie.Need-packing-of-requires Inv-loop μ-loop
 packing-of-requires c κs = sound (c .before .before) .mode
@@ -114,14 +114,14 @@ mul-put-pixels : tie.Need-mul-put-pixels Inv-loop μ-loop
 mul-put-pixels c = omega (arith, from (c .before), bytes-at (c .before))
 
 cast-put-pixels : tie.Need-cast-put-pixels Inv-loop μ-loop
-cast-put-pixels c = omega (arith, room (c .before .before))
+cast-put-pixels c = omega (arith, space (c .before .before))
 
 mul-put-pixels-2 : tie.Need-mul-put-pixels-2 Inv-loop μ-loop
-mul-put-pixels-2 c = omega (arith, room (c .before .before))
+mul-put-pixels-2 c = omega (arith, space (c .before .before))
 
 put-pixels-requires : tie.Need-put-pixels-requires Inv-loop μ-loop
 put-pixels-requires c κs =
-    unpacks-at (cell-native (c .before .before .before .before .before .before .before .before .before)) (c .before .before .before .before .before .before .packing-of .ensures) _ _ _ _ (omega (arith, from (c .before .before), bytes-at (c .before .before))) (omega (arith, room (c .before .before), c .before .before .before .loop .inv .1 .long, c .before .before .before .before .before .before .before .before .before .pre .long))
+    unpacks-at (cell-native (c .before .before .before .before .before .before .before .before .before)) (c .before .before .before .before .before .before .packing-of .ensures) _ _ _ _ (omega (arith, from (c .before .before), bytes-at (c .before .before))) (omega (arith, space (c .before .before), c .before .before .before .loop .inv .1 .long, c .before .before .before .before .before .before .before .before .before .pre .long))
 
 add-i : tie.Need-add-i Inv-loop μ-loop
 add-i c = omega (arith, few (c .before .before .before .before .before .before .before .before .before .before .before .before), c .before .before .before .before .before .loop-test .taken)
@@ -135,7 +135,7 @@ loop-again c =
     let l = c .before .before .before .before .before in
     let a = s .args in (
       search needs,
-      fill-more (λ j. cell-in-length (cell-native s) (now (a .bytes)) _) (c .before .before .before .before .before .before .loop .inv .1) (omega (arith, room l, s .pre .long))
+      fill-more (λ j. cell-in-length (cell-native s) (now (a .bytes)) _) (c .before .before .before .before .before .before .loop .inv .1) (omega (arith, space l, s .pre .long))
           (c .before .before .put-pixels .ensures
           ∙ ap (λ (x : List ℕ). sets (c .before .before .before .before .before .before .loop .out) (c .before .before .before .before .before .before .loop .i * 64) x)
           (unpacks-cell (cell-native s) (c .before .before .before .before .before .before .before .before .before .packing-of .ensures) (now (a .bytes)) (found l * (a .depth * 8))

@@ -9,7 +9,7 @@ use Rattle.words.specs.Answers.{written, overwrite}
 use Rattle.words.proofs.Answers.{refuse, done}
 use Rattle.tileset.specs.Writing.{writeSays}
 use Rattle.tileset.proofs.Says.{held-says-set}
-use Rattle.tileset.proofs.Writing.{held-few, write-held, write-room, sprite-set, cell-set}
+use Rattle.tileset.proofs.Writing.{held-few, write-held, write-space, sprite-set, cell-set}
 use Rattle.tileset.proofs.write.Statement.{statement}
 use Rattle.tileset.proofs.write.Tie as tie
 
@@ -34,7 +34,7 @@ write-size-requires c κs =
 put-sprites-requires : tie.Need-put-sprites-requires
 put-sprites-requires c κs =
     let a = c .before .before .before .before .before .before .before .before .args in
-    (record { held = write-held (a .set) (now (a .store)) _ (accepted (c .before .before .before .before)); room = write-room (a .set) (now (a .store)) _ (accepted (c .before .before .before .before)) }, c .before .if2 .taken)
+    (record { held = write-held (a .set) (now (a .store)) _ (accepted (c .before .before .before .before)); space = write-space (a .set) (now (a .store)) _ (accepted (c .before .before .before .before)) }, c .before .if2 .taken)
 
 same-length : tie.Need-same-length
 same-length c = search needs
@@ -49,7 +49,7 @@ returns-2 c =
 put-cells-requires : tie.Need-put-cells-requires
 put-cells-requires c κs =
     let a = c .before .before .before .before .before .before .before .before .args in
-    (record { held = write-held (a .set) (now (a .store)) _ (accepted (c .before .before .before .before)); room = write-room (a .set) (now (a .store)) _ (accepted (c .before .before .before .before)) }, c .before .if2 .left)
+    (record { held = write-held (a .set) (now (a .store)) _ (accepted (c .before .before .before .before)); space = write-space (a .set) (now (a .store)) _ (accepted (c .before .before .before .before)) }, c .before .if2 .left)
 
 same-length-2 : tie.Need-same-length-2
 same-length-2 c = search needs

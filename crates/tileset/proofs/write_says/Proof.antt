@@ -27,7 +27,7 @@ held-says-requires : tie.Need-held-says-requires
 held-says-requires c κs = search needs
 
 returns : tie.Need-returns
-returns c = write-first (c .before .before .before .args .set) (now (c .before .before .before .args .store)) (c .before .before .before .args .room) (c .before .held-says .result) (c .before .held-says .ensures) (c .if1 .taken)
+returns c = write-first (c .before .before .before .args .set) (now (c .before .before .before .args .store)) (c .before .before .before .args .space) (c .before .held-says .result) (c .before .held-says .ensures) (c .if1 .taken)
 
 mul-count : tie.Need-mul-count
 mul-count c = omega (arith, sound (c .before) .small)
@@ -42,18 +42,18 @@ some-too-large-requires : tie.Need-some-too-large-requires
 some-too-large-requires c κs = (sound (c .before .before) .deep, held-inside (c .before .before .before .before .before .args .set) _ (held (c .before .before)))
 
 returns-2 : tie.Need-returns-2
-returns-2 c = write-8 (c .before .before .before .before .before .before .before .args .set) (now (c .before .before .before .before .before .before .before .args .store)) (c .before .before .before .before .before .before .before .args .room) (held (c .before .before .before .before)) (sym (c .before .some-too-large .ensures) ∙ c .if2 .taken)
+returns-2 c = write-8 (c .before .before .before .before .before .before .before .args .set) (now (c .before .before .before .before .before .before .before .args .store)) (c .before .before .before .before .before .before .before .args .space) (held (c .before .before .before .before)) (sym (c .before .some-too-large .ensures) ∙ c .if2 .taken)
 
 write-size-requires : tie.Need-write-size-requires
 write-size-requires c κs = (held-says-set (c .before .before .before .before .before .before .before .args .set) _ (held (c .before .before .before .before)), held-few (c .before .before .before .before .before .before .before .args .set) _ (held (c .before .before .before .before)))
 
 returns-3 : tie.Need-returns-3
 returns-3 c =
-    write-11 (c .before .before .before .before .before .before .before .before .before .args .set) (now (c .before .before .before .before .before .before .before .before .before .args .store)) (c .before .before .before .before .before .before .before .before .before .args .room) (held (c .before .before .before .before .before .before)) (sym (c .before .before .before .some-too-large .ensures) ∙ c .before .before .if2 .left) (omega (arith, c .before .write-size .ensures, c .if3 .taken))
+    write-11 (c .before .before .before .before .before .before .before .before .before .args .set) (now (c .before .before .before .before .before .before .before .before .before .args .store)) (c .before .before .before .before .before .before .before .before .before .args .space) (held (c .before .before .before .before .before .before)) (sym (c .before .before .before .some-too-large .ensures) ∙ c .before .before .if2 .left) (omega (arith, c .before .write-size .ensures, c .if3 .taken))
 
 returns-4 : tie.Need-returns-4
 returns-4 c =
-    write-0 (c .before .before .before .before .before .before .before .before .before .args .set) (now (c .before .before .before .before .before .before .before .before .before .args .store)) (c .before .before .before .before .before .before .before .before .before .args .room) (held (c .before .before .before .before .before .before)) (sym (c .before .before .before .some-too-large .ensures) ∙ c .before .before .if2 .left) (omega (arith, c .before .write-size .ensures, c .if3 .left))
+    write-0 (c .before .before .before .before .before .before .before .before .before .args .set) (now (c .before .before .before .before .before .before .before .before .before .args .store)) (c .before .before .before .before .before .before .before .before .before .args .space) (held (c .before .before .before .before .before .before)) (sym (c .before .before .before .some-too-large .ensures) ∙ c .before .before .if2 .left) (omega (arith, c .before .write-size .ensures, c .if3 .left))
 
 pub write-says-spec : {M : Type 1} → statement M
 write-says-spec =

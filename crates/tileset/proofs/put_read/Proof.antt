@@ -9,10 +9,10 @@ use denote.Ref.{now}
 use borrow.Author.Needs.{needs}
 use Rattle.tileset.specs.Reading.{tileIn, readCount, readPixels}
 use Rattle.tileset.proofs.Sizes.{IsSet, set-of}
-use Rattle.tileset.proofs.Writing.{Filling, fill-none, fill-more, fill-all, item-room, native-cell}
+use Rattle.tileset.proofs.Writing.{Filling, fill-none, fill-more, fill-all, item-space, native-cell}
 use Rattle.tileset.proofs.Reading.{tile-inside, tile-length, cells-long, rows-are}
-use Rattle.tileset.proofs.put_tiles.Statement.{statement}
-use Rattle.tileset.proofs.put_tiles.Tie as tie
+use Rattle.tileset.proofs.put_read.Statement.{statement}
+use Rattle.tileset.proofs.put_read.Tie as tie
 
 abbrev Inv-loop : tie.InvT-loop
 Inv-loop mode depth width height bytes count store₀ cells₀ w h n₀ store cells n = (n ≤ count) × ((length cells ≡ 4096) × Filling (tileIn mode depth width height bytes) (width * height) store₀ n store)
@@ -24,7 +24,7 @@ sound : (c : tie.Start Inv-loop μ-loop) → IsSet (c .args .mode) (c .args .dep
 sound c = set-of _ _ _ _ (c .pre .sound)
 
 here : (c : tie.In-loop Inv-loop μ-loop) → let a = c .before .before .before .before .args in c .before .loop .n * (a .width * a .height) + a .width * a .height ≤ length (now (a .store))
-here c = item-room (c .before .before .before .before .args .count) _ _ (c .before .loop .n) (c .before .before .before .before .pre .room) (c .loop-test .taken)
+here c = item-space (c .before .before .before .before .args .count) _ _ (c .before .loop .n) (c .before .before .before .before .pre .space) (c .loop-test .taken)
 
 loop-holds : tie.Need-loop-holds Inv-loop μ-loop
 loop-holds c = (search needs, (refl, fill-none _ _ _))
@@ -62,7 +62,7 @@ put-rows-requires c κs =
       across = sound s .across;
       down = sound s .down;
       inside = omega (arith, cells-long (sound s) (native-cell (sound s) (s .pre .cells)) (now (s .args .bytes)) [] (c .before .before .before .before .before .before .loop .n) _ _ (c .before .before .before .unpack-cells .ensures) (c .before .before .before .before .before .before .loop .inv .1 .0), sound s .small);
-      room = omega (arith, here (c .before .before .before .before .before), c .before .before .before .before .before .before .loop .inv .1 .1 .long);
+      space = omega (arith, here (c .before .before .before .before .before), c .before .before .before .before .before .before .loop .inv .1 .1 .long);
     }
 
 add-n : tie.Need-add-n Inv-loop μ-loop
@@ -96,8 +96,8 @@ returns c =
     let all : c .before .loop .n ≡ readCount (s .args .mode) (s .args .depth) (s .args .width) (s .args .height) (length (now (s .args .bytes))) = omega (arith, s .pre .is) in
     fill-all (tile-length _ _ _ _ (now (s .args .bytes))) (c .before .loop .inv .1 .1) all
 
-pub put-tiles-spec : {M : Type 1} → statement M
-put-tiles-spec =
+pub put-read-spec : {M : Type 1} → statement M
+put-read-spec =
     tie.close
     (tie.spec
     Inv-loop

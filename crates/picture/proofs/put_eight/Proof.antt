@@ -10,8 +10,8 @@ use Rattle.words.specs.Loops.{each}
 use Rattle.index.proofs.Putting.{Putting, put-none, put-more, put-all}
 use Rattle.picture.proofs.Cells.{length-ones, number-at}
 use borrow.Author.Needs.{needs}
-use Rattle.picture.proofs.put_row.Statement.{statement}
-use Rattle.picture.proofs.put_row.Tie as tie
+use Rattle.picture.proofs.put_eight.Statement.{statement}
+use Rattle.picture.proofs.put_eight.Tie as tie
 
 abbrev Inv-loop : tie.InvT-loop
 Inv-loop depth pixels from out₀ at x₀ out x = Putting out₀ at (each 8 (λ x. getD pixels (from + x) 0 % 2 ^ depth ∷ [])) x out
@@ -66,8 +66,8 @@ same-length c = search needs
 returns : tie.Need-returns Inv-loop μ-loop
 returns c = put-all (c .before .loop .inv) (omega (arith, eight (c .before .before .before .before), c .before .before .before .before .pre .2)) (omega (arith, eight (c .before .before .before .before)))
 
-pub put-row-spec : {M : Type 1} → statement M
-put-row-spec =
+pub put-eight-spec : {M : Type 1} → statement M
+put-eight-spec =
     tie.close
     (tie.spec
     Inv-loop

@@ -7,9 +7,9 @@ use lib.ListN.{getD, drop, length-set, length}
 use denote.Ref.{now}
 use borrow.Author.Needs.{needs}
 use Rattle.words.specs.Loops.{each}
-use Rattle.tileset.proofs.Writing.{block-at, gather-more, gather-all}
-use Rattle.tileset.proofs.gather.Statement.{statement}
-use Rattle.tileset.proofs.gather.Tie as tie
+use Rattle.tileset.proofs.Writing.{block-at, take-block-more, take-block-all}
+use Rattle.tileset.proofs.take_block.Statement.{statement}
+use Rattle.tileset.proofs.take_block.Tie as tie
 
 abbrev Inv-loop : tie.InvT-loop
 Inv-loop store corner width out₀ i₀ out i = (i ≤ 64) × ((out ≡ each i (λ k. getD store (corner + k / 8 * width + k % 8) 0 ∷ []) ++ drop i out₀) × (length out ≡ 64))
@@ -52,7 +52,7 @@ loop-again c =
     let i = c .before .before .loop .i in (
       search needs,
       (
-        gather-more (λ k. getD (now (a .store)) (a .corner + k / 8 * a .width + k % 8) 0) _ _ i _ (c .before .before .loop .inv .1 .0) (omega (arith, c .before .before .before .pre .long, c .before .loop-test .taken)) refl,
+        take-block-more (λ k. getD (now (a .store)) (a .corner + k / 8 * a .width + k % 8) 0) _ _ i _ (c .before .before .loop .inv .1 .0) (omega (arith, c .before .before .before .pre .long, c .before .loop-test .taken)) refl,
         simp length-set (c .before .before .loop .inv .1 .1),
       ),
     )
@@ -63,10 +63,10 @@ same-length c = search needs
 returns : tie.Need-returns Inv-loop μ-loop
 returns c =
     let a = c .before .before .args in
-    gather-all (λ k. getD (now (a .store)) (a .corner + k / 8 * a .width + k % 8) 0) _ _ (c .before .loop .i) 64 (c .before .loop .inv .1 .0) (c .before .before .pre .long) (omega arith)
+    take-block-all (λ k. getD (now (a .store)) (a .corner + k / 8 * a .width + k % 8) 0) _ _ (c .before .loop .i) 64 (c .before .loop .inv .1 .0) (c .before .before .pre .long) (omega arith)
 
-pub gather-spec : {M : Type 1} → statement M
-gather-spec =
+pub take-block-spec : {M : Type 1} → statement M
+take-block-spec =
     tie.close
     (tie.spec
     Inv-loop

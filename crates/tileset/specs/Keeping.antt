@@ -1,15 +1,12 @@
--- What a picture stores of its tiles, "as by adding to an empty set", and what it needs.
+-- What is stored of some tiles, added one after the other: the one fold of adding, over lists of tiles. A set's store and a picture's tiles are read by it.
 -- Assumes nothing.
-use mathlib.Core.Bool.{Bool, false, not, cond, _&&_}
+use mathlib.Core.Bool.{Bool, not, cond, _&&_}
 use mathlib.Core.List.{List, [], _∷_, _++_}
 use Prim.Native.Nat.{ℕ, _+_}
 use lib.ListN.{length}
 use Rattle.words.specs.Bytes.{bit}
-use Rattle.mapentry.specs.declared.Mapentry.{Mapentry}
 use Rattle.tileset.specs.Finding.{lookUp, isFound}
-use Rattle.tileset.specs.History.{matchesSome}
-use Rattle.tileset.specs.declared.Found.{Found}
-use Rattle.tileset.specs.declared.Found.the-variants.{At, Nothing}
+use Rattle.tileset.specs.Matched.{matchesSome}
 
 -- The stored tiles after one more: "With discarding on, a match adds one to discarded and stores nothing; otherwise the tile goes at the end, or 12"
 -- (the 12 is a picture's own, counted by its need). And after some more.
@@ -37,13 +34,5 @@ unfoldable pub need : Bool → Bool → ℕ → ℕ → List (List ℕ) → ℕ
 need discard on w h tiles = cond discard (fresh on w h [] tiles) (length tiles)
 
 -- "Discarded is the number of those whose tile matched one read or accepted earlier (0 with discarding off)": of a picture, an earlier tile.
-unfoldable pub dropped : Bool → Bool → ℕ → ℕ → List (List ℕ) → ℕ
-dropped discard on w h tiles = cond discard (again on w h [] tiles) 0
-
--- "Each entry has the look-up's place and flip, the given palette index, priority 0." A picture's tiles are all found among those it stores.
-abbrev pub entryAs : ℕ → ℕ → Bool → Bool → Mapentry
-entryAs tile palette h v = record { tile = tile; palette = palette; «flip_h» = h; «flip_v» = v; priority = false }
-
-abbrev pub entryFor : ℕ → Found → Mapentry
-entryFor palette (At k f) = entryAs k palette (f .h) (f .v)
-entryFor palette Nothing = entryAs 0 palette false false
+unfoldable pub discarded : Bool → Bool → ℕ → ℕ → List (List ℕ) → ℕ
+discarded discard on w h tiles = cond discard (again on w h [] tiles) 0

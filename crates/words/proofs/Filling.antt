@@ -1,0 +1,67 @@
+-- The one law of every loop that fills a lent slice: items put one after the other, from a place on.
+-- Assumes nothing.
+use mathlib.Core.Path.{_≡_, refl, sym, ap, _∙_}
+use mathlib.Core.List.{List, [], _∷_, _++_, append-nil}
+use Prim.Native.Nat.{ℕ, zero, suc, _+_, _*_, _<_, _≤_}
+use native.Mathlib.Nat.{add-zero, add-suc, suc-add, mul-one}
+use native.Mathlib.Numerals.{add-one}
+use native.Mathlib.Omega.{arith}
+use lib.ListN.{length, getD, set, drop, drop-of-length-le}
+use lib.Seq.{sets, length-sets, ext-getD}
+use Rattle.words.specs.Answers.{overwrite}
+use Rattle.words.specs.Loops.{each}
+use Rattle.words.proofs.Items.{item-getD}
+use Rattle.words.proofs.Loops.{length-each, sets-front}
+
+pub sets-append : (xs ys l : List ℕ) (i : ℕ) → sets l i (xs ++ ys) ≡ sets (sets l i xs) (i + length xs) ys
+sets-append [] ys l i = ap (λ (n : ℕ). sets l n ys) (sym (add-zero i))
+sets-append (a ∷ xs) ys l i =
+    sets-append xs ys (set l i a) (suc i)
+    ∙ ap (λ (n : ℕ). sets (sets (set l i a) (suc i) xs) n ys) (suc-add i (length xs) ∙ sym (add-suc i (length xs)))
+
+-- the invariant: now is out with items 0, .., i - 1 from place at on
+pub record Filled (f : ℕ → List ℕ) (out : List ℕ) (at i : ℕ) (now : List ℕ) : Type 0 where
+  pub is : now ≡ sets out at (each i f)
+  pub long : length now ≡ length out
+
+pub filled-none : (f : ℕ → List ℕ) (out : List ℕ) (at : ℕ) → Filled f out at 0 out
+filled-none f out at = record { is = refl; long = refl }
+
+-- one item of k numbers more
+pub filled-more : (k : ℕ) {f : ℕ → List ℕ} {out now then : List ℕ} {at i : ℕ} → ((j : ℕ) → length (f j) ≡ k) → Filled f out at i now → then ≡ sets now (at + i * k) (f i)
+    → Filled f out at (i + 1) then
+filled-more k {f} {out} {now} {then} {at} {i} size h e =
+    record {
+      is =
+          e ∙ ap (λ (l : List ℕ). sets l (at + i * k) (f i)) (h .is)
+          ∙ ap (λ (n : ℕ). sets (sets out at (each i f)) (at + n) (f i)) (sym (length-each i k f size))
+          ∙ sym (sets-append (each i f) (f i) out at)
+          ∙ ap (λ (n : ℕ). sets out at (each n f)) (sym (add-one i));
+      long = ap length e ∙ length-sets now (at + i * k) (f i) ∙ h .long;
+    }
+
+-- one number more
+pub filled-one : {g : ℕ → ℕ} {out now : List ℕ} {at i v : ℕ} → Filled (λ k. g k ∷ []) out at i now → v ≡ g i → Filled (λ k. g k ∷ []) out at (i + 1) (set now (at + i) v)
+filled-one {g} {out} {now} {at} {i} {v} h e =
+    filled-more 1 (λ j. refl) h (ap (λ (x : ℕ). set now (at + i) x) e ∙ ap (λ (k : ℕ). set now (at + k) (g i)) (sym (mul-one i)))
+
+-- all of them: from a place on, from the start, and where they are all that the slice has
+pub filled-all : {f : ℕ → List ℕ} {out now : List ℕ} {at i : ℕ} (n : ℕ) → Filled f out at i now → i ≡ n → now ≡ sets out at (each n f)
+filled-all {f} {out} {now} {at} n h e = h .is ∙ ap (λ (k : ℕ). sets out at (each k f)) e
+
+pub filled-front : (k : ℕ) {f : ℕ → List ℕ} {out now : List ℕ} {i : ℕ} (n : ℕ) → ((j : ℕ) → length (f j) ≡ k) → Filled f out 0 i now → i ≡ n → n * k ≤ length out → now ≡ overwrite out (each n f)
+filled-front k {f} {out} n size h e fits = filled-all n h e ∙ sets-front out (each n f) (omega (arith, length-each n k f size))
+
+pub filled-whole : (k : ℕ) {f : ℕ → List ℕ} {out now : List ℕ} {i : ℕ} (n : ℕ) → ((j : ℕ) → length (f j) ≡ k) → Filled f out 0 i now → i ≡ n → length out ≡ n * k → now ≡ each n f
+filled-whole k {f} {out} n size h e whole =
+    filled-front k n size h e (omega arith)
+    ∙ ap (λ (l : List ℕ). each n f ++ l) (drop-of-length-le out {i = length (each n f)} (omega (arith, length-each n k f size)))
+    ∙ append-nil (each n f)
+
+-- a list is its numbers, so that copying one is filling too
+pub each-of : (l : List ℕ) → each (length l) (λ k. getD l k 0 ∷ []) ≡ l
+each-of l =
+    let f : ℕ → List ℕ = λ k. getD l k 0 ∷ [] in
+    let long : length (each (length l) f) ≡ length l = length-each (length l) 1 f (λ k. refl) ∙ mul-one (length l) in
+    ext-getD 0 (each (length l) f) l long
+    (λ i lt. ap (λ (k : ℕ). getD (each (length l) f) k 0) (sym (ap (λ (k : ℕ). k + 0) (mul-one i) ∙ add-zero i)) ∙ item-getD 1 f (λ k. refl) (length l) i (omega (arith, long)) 0 (omega arith))

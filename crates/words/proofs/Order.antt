@@ -1,0 +1,76 @@
+-- A call's checks in the order of their numbers: the first that applies is the lowest.
+-- Assumes nothing.
+use mathlib.Core.Path.{_≡_, refl, sym, ap, _∙_}
+use mathlib.Core.Bool.{Bool, true, false, _&&_}
+use mathlib.Core.List.{List, [], _∷_, _++_}
+use mathlib.Core.Logic.{_⊎_, inl, inr}
+use Prim.Native.Nat.{ℕ, zero, suc, _≤_, min}
+use native.Mathlib.Nat.{suc-ne-zero}
+use native.Mathlib.Omega.{arith}
+use lib.Dec.{T, leb, leb→le}
+use Rattle.words.specs.Answers.{_when_, firstApplying, lower, lowest}
+use Rattle.words.proofs.Loops.{both-left, both-right}
+
+-- checks after checks: the first list's answer stands for it
+pub first-append : (xs ys : List ℕ) → firstApplying (xs ++ ys) ≡ firstApplying (firstApplying xs ∷ ys)
+first-append [] ys = refl
+first-append (zero ∷ xs) ys = first-append xs ys
+first-append (suc n ∷ xs) ys = refl
+
+-- the test that is computed of a call's numbers
+abbrev rising : ℕ → List ℕ → Bool
+rising k [] = true
+rising k (j ∷ js) = leb k j && rising j js
+
+abbrev pub ascending : List ℕ → Bool
+ascending ks = rising 0 ks
+
+-- each check gives its own number, or does not apply
+abbrev pub Gives : List ℕ → List ℕ → Type 0
+Gives [] [] = Unit {0}
+Gives [] (n ∷ ns) = ⊥
+Gives (k ∷ ks) [] = ⊥
+Gives (k ∷ ks) (n ∷ ns) = ((n ≡ 0) ⊎ (n ≡ k)) × Gives ks ns
+
+pub gives-when : (k : ℕ) (b : Bool) → (k when b ≡ 0) ⊎ (k when b ≡ k)
+gives-when k true = inr refl
+gives-when k false = inl refl
+
+-- the lower of two numbers that are from j on, where they are not 0
+lower-from : (j n x : ℕ) → (n ≡ 0) ⊎ (n ≡ j) → (x ≡ 0) ⊎ (j ≤ x) → (lower n x ≡ 0) ⊎ (j ≤ lower n x)
+lower-from j zero x p q = q
+lower-from j (suc n) zero (inl e) q = absurd (suc-ne-zero n e)
+lower-from j (suc n) zero (inr e) q = inr (omega arith)
+lower-from j (suc n) (suc x) (inl e) q = absurd (suc-ne-zero n e)
+lower-from j (suc n) (suc x) (inr e) (inl z) = absurd (suc-ne-zero x z)
+lower-from j (suc n) (suc x) (inr e) (inr le) = inr (omega arith)
+
+from-below : (k j x : ℕ) → k ≤ j → (x ≡ 0) ⊎ (j ≤ x) → (x ≡ 0) ⊎ (k ≤ x)
+from-below k j x le (inl z) = inl z
+from-below k j x le (inr q) = inr (omega arith)
+
+lowest-from : (k : ℕ) (ks ns : List ℕ) → T (rising k ks) → Gives ks ns → (lowest ns ≡ 0) ⊎ (k ≤ lowest ns)
+lowest-from k [] [] t g = inl refl
+lowest-from k [] (n ∷ ns) t g = absurd g
+lowest-from k (j ∷ ks) [] t g = absurd g
+lowest-from k (j ∷ ks) (n ∷ ns) t g =
+    from-below k j (lower n (lowest ns)) (leb→le k j (both-left (leb k j) (rising j ks) t))
+    (lower-from j n (lowest ns) (g .0) (lowest-from j ks ns (both-right (leb k j) (rising j ks) t) (g .1)))
+
+lower-first : (j n x : ℕ) → (suc n ≡ 0) ⊎ (suc n ≡ j) → (x ≡ 0) ⊎ (j ≤ x) → suc n ≡ lower (suc n) x
+lower-first j n x (inl e) q = absurd (suc-ne-zero n e)
+lower-first j n zero (inr e) q = refl
+lower-first j n (suc x) (inr e) (inl z) = absurd (suc-ne-zero x z)
+lower-first j n (suc x) (inr e) (inr le) = omega arith
+
+first-from : (k : ℕ) (ks ns : List ℕ) → T (rising k ks) → Gives ks ns → firstApplying ns ≡ lowest ns
+first-from k [] [] t g = refl
+first-from k [] (n ∷ ns) t g = absurd g
+first-from k (j ∷ ks) [] t g = absurd g
+first-from k (j ∷ ks) (zero ∷ ns) t g = first-from j ks ns (both-right (leb k j) (rising j ks) t) (g .1)
+first-from k (j ∷ ks) (suc n ∷ ns) t g =
+    lower-first j n (lowest ns) (g .0) (lowest-from j ks ns (both-right (leb k j) (rising j ks) t) (g .1))
+
+-- "Where several apply, the lowest number is given": ks are a call's numbers in its order
+pub first-lowest : (ks ns : List ℕ) → T (ascending ks) → Gives ks ns → firstApplying ns ≡ lowest ns
+first-lowest ks ns t g = first-from 0 ks ns t g

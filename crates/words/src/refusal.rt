@@ -1,0 +1,42 @@
+// What the station is told: document 01's numbers. 0 means done.
+// Mode number above 15.
+pub const MODE: u32 = 1;
+
+// An entry, picture, redraw or cell number in pce_sprite; reading a pce_sprite set.
+pub const PCE_SPRITE: u32 = 2;
+
+// Depth not in the mode's row.
+pub const DEPTH: u32 = 3;
+
+// Tile size not allowed, columns or rows outside 1..64, or a tile number above 65,535.
+pub const SIZE: u32 = 4;
+
+// Picture with flips on in a mode without flips.
+pub const FLIPS: u32 = 5;
+
+// Set state counts more tiles than its room.
+pub const COUNT: u32 = 6;
+
+// Input length not the one required; in redrawing also tile bytes that end before a tile the map names.
+pub const LENGTH: u32 = 7;
+
+// A pixel of 2^depth or more, in tile packing or set writing.
+pub const PIXEL: u32 = 8;
+
+// A component r, g or b above the top, gray modes included.
+pub const COMPONENT: u32 = 9;
+
+// An entry field its bits cannot hold, a flip or priority where there is none, or a picture's palette index too large.
+pub const FIELD: u32 = 10;
+
+// Output buffer shorter than the bytes to be written.
+pub const OUTPUT: u32 = 11;
+
+// No room for the tiles.
+pub const ROOM: u32 = 12;
+
+// Discarding on, discard counter 4,294,967,295, and an added tile matches.
+pub const DISCARDED: u32 = 13;
+
+// Program only, before all others: settings lines not as document 01 has them.
+pub const SETTINGS: u32 = 14;
