@@ -23,7 +23,7 @@ use Rattle.tile.proofs.Native.{Native}
 use Rattle.tileset.specs.Sets.{sides, setSays}
 use Rattle.tileset.proofs.Says.{next-given}
 use Rattle.tileset.proofs.Sizes.{IsSet, set-of, bits-some}
-use Rattle.tileset.proofs.Writing.{native-cell}
+use Rattle.tileset.proofs.WritingLaws.{native-cell}
 use Rattle.picture.specs.Entries.{entryAs}
 use Rattle.picture.specs.Converting.{askedChecks, places, isSpan, sizeChecks, sizeSays, pictureRoom, needOf, convertSays}
 use Rattle.picture.specs.Inner.{askedSays, IsPicture}

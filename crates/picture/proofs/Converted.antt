@@ -24,7 +24,7 @@ use Rattle.flip.proofs.Equivalence.{Allowed}
 use Rattle.tileset.specs.Finding.{lookUp, isFound}
 use Rattle.tileset.specs.declared.Found.{Found}
 use Rattle.tileset.specs.declared.Found.the-variants.{At, Nothing}
-use Rattle.tileset.proofs.Writing.{packed-length}
+use Rattle.tileset.proofs.WritingLaws.{packed-length}
 use Rattle.picture.specs.Cells.{cutTile, cutTiles}
 use Rattle.tileset.specs.Keeping.{kept}
 use Rattle.picture.specs.Entries.{entryFor}

@@ -10,7 +10,7 @@ use lib.Seq.{ext-getD}
 use Rattle.words.specs.Loops.{each}
 use Rattle.words.proofs.Items.{item-getD}
 use Rattle.words.proofs.Loops.{length-each}
-use Rattle.tileset.proofs.Writing.{Filling, fill-all}
+use Rattle.tileset.proofs.WritingLaws.{Filling, fill-all}
 use Rattle.picture.specs.Cells.{pixelAt, cutTile}
 use Rattle.picture.specs.Converting.{places}
 use Rattle.picture.specs.Inner.{IsPicture, HasTile}

@@ -19,7 +19,7 @@ ghost use Rattle.color.specs.Color.{packSays, packed, unpackSays, unpacked};
 ghost use Rattle.color.specs.Channel.{modeSays, reduced, scaleSays, scaledUp};
 ghost use Rattle.mapentry.specs.Entry as entry;
 ghost use Rattle.tile.specs.Tile as tile;
-ghost use Rattle.tileset.specs.Sets.{setSays, lookSays, setAnswer, newSet, noSet, emptied};
+ghost use Rattle.tileset.specs.Sets.{setSays, lookSays, answeredSet, newSet, noSet, emptied};
 ghost use Rattle.tileset.specs.Finding.{placed, foundIn};
 ghost use Rattle.tileset.specs.Adding.{addSays, added, storeWith, Adds};
 ghost use Rattle.tileset.specs.Writing.{writeSays, setBytes};
@@ -177,14 +177,14 @@ pub extern "C" fn rumchivoat_set_new(
     discarding: bool,
     limit: u32,
 ) -> SetAnswer
-    ensures { λ r. ⌜ r ≡ setAnswer (setSays mode depth width height) (newSet mode depth width height flips discarding limit) noSet ⌝ }
+    ensures { λ r. ⌜ r ≡ answeredSet (setSays mode depth width height) (newSet mode depth width height flips discarding limit) noSet ⌝ }
 {
     tileset::set_new(mode, depth, width, height, flips, discarding, limit)
 }
 
 #[no_mangle]
 pub extern "C" fn rumchivoat_set_reset(set: Set) -> SetAnswer
-    ensures { λ r. ⌜ r ≡ setAnswer (setSays (set .mode) (set .depth) (set .width) (set .height)) (emptied set) set ⌝ }
+    ensures { λ r. ⌜ r ≡ answeredSet (setSays (set .mode) (set .depth) (set .width) (set .height)) (emptied set) set ⌝ }
 {
     tileset::set_reset(set)
 }

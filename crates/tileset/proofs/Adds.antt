@@ -20,7 +20,7 @@ use Rattle.tileset.specs.declared.Set.{Set}
 use Rattle.tileset.proofs.Says.{held-0, look-0, room-left}
 use Rattle.tileset.proofs.Sizes.{set-of}
 use Rattle.tileset.proofs.Stores.{length-cut, length-tiles as length-stored, tiles-put}
-use Rattle.tileset.proofs.Adding.{keep-says, discard-says, keep-set, keep-store, discard-set, discard-store}
+use Rattle.tileset.proofs.AddingLaws.{keep-says, discard-says, keep-set, keep-store, discard-set, discard-store}
 use Rattle.tileset.proofs.Keeping.{Every, keep-grows, all-grow}
 
 -- what is kept of some tiles after those of a set

@@ -21,7 +21,7 @@ use Rattle.tileset.specs.History.{setAfter, storeAfter, setAtEnd, storeA
 use Rattle.tileset.specs.declared.Set.{Set}
 use Rattle.tileset.proofs.Says.{room-left, looks-of}
 use Rattle.tileset.proofs.Stores.{length-cut, tiles-put}
-use Rattle.tileset.proofs.Adding.{keep-off, keep-says, keep-set, keep-store, discard-set, discard-store}
+use Rattle.tileset.proofs.AddingLaws.{keep-off, keep-says, keep-set, keep-store, discard-set, discard-store}
 use Rattle.tileset.proofs.Matched.{look-some, alike-kept, alike-gone, apart-more}
 
 -- ---- stored + discarded = adds answered 0

@@ -13,7 +13,7 @@ use Rattle.tileset.specs.Numbers.{rowCells, firstCell, Grid}
 use Rattle.tileset.specs.Reading.{readCount, readableSays, readSet}
 use Rattle.tileset.specs.declared.Set.{Set}
 use Rattle.tileset.proofs.Sizes.{set-of, grid-set}
-use Rattle.tileset.proofs.Reading.{readable-mode, readable-says-set, cells-before, tile-complete, next-incomplete}
+use Rattle.tileset.proofs.ReadingLaws.{readable-mode, readable-says-set, cells-before, tile-complete, next-incomplete}
 use Rattle.tileset.proofs.ReadBack.{single-tiles}
 use Rattle.tileset.proofs.Matched.{apart-none}
 use Rattle.tileset.proofs.History.{adds-sum, adds-repeats, adds-off, adds-apart}

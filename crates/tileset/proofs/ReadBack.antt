@@ -22,10 +22,10 @@ use Rattle.tileset.specs.Reading.{wholeTiles, readCount, readSays, pixel
 use Rattle.tileset.specs.declared.Set.{Set}
 use Rattle.tileset.proofs.Sizes.{IsSet, grid-set, bits-some}
 use Rattle.tileset.proofs.Says.{held-set, held-says-set}
-use Rattle.tileset.proofs.Numbers.{belongs-start}
-use Rattle.tileset.proofs.Writing.{held-inside, write-held, cell-set, cells-space, cell-blank}
+use Rattle.tileset.proofs.NumberLaws.{belongs-start}
+use Rattle.tileset.proofs.WritingLaws.{held-inside, write-held, cell-set, cells-space, cell-blank}
 use Rattle.tileset.proofs.Written.{cell-back, tile-pixel}
-use Rattle.tileset.proofs.Reading.{strip-some, tile-complete, cells-before, readable-set, read-0}
+use Rattle.tileset.proofs.ReadingLaws.{strip-some, tile-complete, cells-before, readable-set, read-0}
 
 -- What reading the bytes of a written set gives: its tiles and blank ones, and no refusal where there is room for them.
 pub record ReadsBack (z : Set) (store : List ℕ) : Type 0 where

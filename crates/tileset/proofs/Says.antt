@@ -11,7 +11,7 @@ use lib.ListN.{length, getD}
 use borrow.Author.Tests.{lt-ltb, le-ltb, ltb-false, eq-eqb, ne-eqb, eqb-true, not-false}
 use Rattle.words.specs.Answers.{_when_, firstApplying}
 use Rattle.words.proofs.Answers.{all-passed, not-given, first-given, when-done, when-refused}
-use Rattle.tileset.specs.Sets.{area, setRoom, roomIn, setSays, heldChecks, heldSays, lookChecks, lookSays, setAnswer}
+use Rattle.tileset.specs.Sets.{area, setRoom, roomIn, setSays, heldChecks, heldSays, lookChecks, lookSays, answeredSet}
 use Rattle.tileset.specs.Finding.{noPlace, placeOf, placed, Looks}
 use Rattle.tileset.specs.Numbers.{nativeAnswer, logicalAnswer, gridSays, nativeSays, logicalSays, tileOf}
 use Rattle.tileset.specs.declared.Set.{Set}
@@ -31,11 +31,11 @@ next-given {n = suc n} ns e = absurd (suc-ne-zero n e)
 abbrev pub setAnswer : ℕ → Set → SetAnswer
 setAnswer n set = record { refusal = n; set = set }
 
-pub refused-set : (n : ℕ) {k : ℕ} (next set : Set) → n ≡ k → (n ≡ 0 → ⊥) → setAnswer n set ≡ setAnswer k next set
+pub refused-set : (n : ℕ) {k : ℕ} (next set : Set) → n ≡ k → (n ≡ 0 → ⊥) → setAnswer n set ≡ answeredSet k next set
 refused-set n {k} next set e h =
     ap (λ (i : ℕ). setAnswer i set) e ∙ ap (setAnswer k) (sym (when-refused k next set (λ z. h (e ∙ z))))
 
-pub done-set : {k : ℕ} (next set : Set) → k ≡ 0 → setAnswer 0 next ≡ setAnswer k next set
+pub done-set : {k : ℕ} (next set : Set) → k ≡ 0 → setAnswer 0 next ≡ answeredSet k next set
 done-set {k} next set e =
     ap (λ (i : ℕ). setAnswer i next) (sym e) ∙ ap (setAnswer k) (sym (when-done k next set e))
 

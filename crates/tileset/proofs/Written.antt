@@ -25,8 +25,8 @@ use Rattle.tileset.specs.Writing.{paddedCells, cellCount, cornerOf, bloc
 use Rattle.tileset.specs.declared.Set.{Set}
 use Rattle.tileset.proofs.Sizes.{IsSet, grid-set}
 use Rattle.tileset.proofs.Says.{held-set}
-use Rattle.tileset.proofs.Numbers.{belongs-start, row-start, column-start}
-use Rattle.tileset.proofs.Writing.{block-at, block-length, native-cell, native-sprite, held-inside, corner-counted, cell-length, sprite-length, cell-set, sprite-set, cell-there, write-held}
+use Rattle.tileset.proofs.NumberLaws.{belongs-start, row-start, column-start}
+use Rattle.tileset.proofs.WritingLaws.{block-at, block-length, native-cell, native-sprite, held-inside, corner-counted, cell-length, sprite-length, cell-set, sprite-set, cell-there, write-held}
 
 -- a native tile of small pixels, packed and unpacked
 back : {m d w h : ℕ} → Native m d w h → (pixels : List ℕ) → length pixels ≡ w * h → ((i : ℕ) → i < w * h → getD pixels i 0 < 2 ^ d) → unpacked m d w h (packed m d w h pixels) ≡ pixels

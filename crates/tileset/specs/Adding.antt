@@ -8,7 +8,7 @@ use lib.Dec.{leb, eqb}
 use lib.ListN.{length}
 use lib.Seq.{sets}
 use Rattle.words.specs.Answers.{_when_, firstApplying, unless}
-use Rattle.tileset.specs.Sets.{area, roomIn, lookSays, withCounts, setAnswer}
+use Rattle.tileset.specs.Sets.{area, roomIn, lookSays, withCounts, answeredSet}
 use Rattle.tileset.specs.Finding.{cutTo, foundIn, isFound}
 use Rattle.tileset.specs.declared.Set.{Set}
 use Rattle.tileset.specs.declared.SetAnswer.{SetAnswer}
@@ -43,5 +43,5 @@ storeWith z store pixels = cond (discards z store pixels) store (sets store (z .
 
 -- The promise of adding: the set handed back as it came by a refusal, and the store "untouched".
 pub record Adds (refusal : ℕ) (set next : Set) (before with : List ℕ) (r : SetAnswer) (after : List ℕ) : Type 0 where
-  pub answer : r ≡ setAnswer refusal next set
+  pub answer : r ≡ answeredSet refusal next set
   pub lent : after ≡ unless refusal with before

@@ -66,8 +66,8 @@ abbrev pub noSet : Set
 noSet = newSet 0 0 0 0 false false 0
 
 -- The answer of a call: the set as it is done, or the one that a refusal gives.
-abbrev pub setAnswer : ℕ → Set → Set → SetAnswer
-setAnswer n done refused = record { refusal = n; set = unless n done refused }
+abbrev pub answeredSet : ℕ → Set → Set → SetAnswer
+answeredSet n done refused = record { refusal = n; set = unless n done refused }
 
 -- "Room is the least of 65,535, the store's whole tiles, and the limit if not 0."
 abbrev pub area : Set → ℕ

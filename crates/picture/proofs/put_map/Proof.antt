@@ -8,7 +8,7 @@ use denote.Ref.{now}
 use Rattle.mode.specs.Table.{row}
 use Rattle.mapentry.specs.Entry.{entryBytes, IsEntry}
 use Rattle.mapentry.specs.declared.Mapentry.{Mapentry}
-use Rattle.tileset.proofs.Writing.{Filling, fill-none, fill-more, fill-all, item-space}
+use Rattle.tileset.proofs.WritingLaws.{Filling, fill-none, fill-more, fill-all, item-space}
 use Rattle.picture.specs.Inner.{entryCoded}
 use Rattle.picture.proofs.Converted.{entry-size}
 use borrow.Author.Needs.{needs}

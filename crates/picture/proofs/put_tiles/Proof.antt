@@ -8,7 +8,7 @@ use lib.Seq.{sets}
 use denote.Ref.{now}
 use Rattle.tile.specs.Tile.{packed}
 use Rattle.tile.proofs.Native.{Native, fitting}
-use Rattle.tileset.proofs.Writing.{Filling, fill-none, fill-more, fill-all, packs-at, packs-bytes, item-space}
+use Rattle.tileset.proofs.WritingLaws.{Filling, fill-none, fill-more, fill-all, packs-at, packs-bytes, item-space}
 use Rattle.picture.proofs.Checks.{native-tile}
 use Rattle.picture.proofs.Converted.{packed-size}
 use borrow.Author.Needs.{needs}

@@ -4,7 +4,7 @@ use Prim.Native.Nat.{_≤_, _-_}
 use native.Mathlib.Nat.{div-le-self}
 use native.Mathlib.Omega.{arith}
 use denote.Ref.{now}
-use Rattle.tileset.proofs.Writing.{Filling, fill-none, fill-more}
+use Rattle.tileset.proofs.WritingLaws.{Filling, fill-none, fill-more}
 use Rattle.picture.proofs.Taking.{rowAt, row-length, rows-are, fill-whole, row-there}
 use borrow.Author.Needs.{needs}
 use Rattle.picture.proofs.take_tile.Statement.{statement}

@@ -1,0 +1,373 @@
+-- Reading: how many tiles come before the first incomplete one, and the loops that read them.
+-- Assumes nothing.
+use mathlib.Core.Path.{_≡_, refl, sym, ap, _∙_, subst}
+use mathlib.Core.Bool.{Bool, true, false, not}
+use mathlib.Core.List.{List, [], _∷_, _++_, append-nil, append-assoc}
+use Prim.Native.Nat.{ℕ, zero, suc, _+_, _-_, _*_, _/_, _%_, _<_, _≤_}
+use native.Mathlib.Nat.{mod-lt, div-le-self, mul-le-mul, mul-le-mul-left, mul-le-mul-right, mul-pos, mul-assoc, mul-left-comm, mul-comm, add-mul, mul-one, one-mul, zero-mul, add-zero, div-add-mod', zero-div, div-lt-iff-lt-mul, le-div-iff-mul-le, le-trans, lt-of-mul-lt-mul-right}
+use native.Mathlib.Numerals.{add-one}
+use native.Mathlib.Omega.{arith}
+use lib.Dec.{ltb, eqb}
+use lib.ListN.{length, getD, set, drop, take, take-append-drop, length-append, length-drop, List·getD-append}
+use lib.Seq.{sets, sets-eq, length-sets, length-take-le}
+use borrow.Author.Tests.{eq-eqb, ne-eqb, lt-ltb, le-ltb, ltb-true, ltb-false}
+use Rattle.words.specs.Answers.{_when_, firstApplying, overwrite}
+use Rattle.words.specs.Loops.{each}
+use Rattle.words.proofs.Answers.{all-passed, not-given, first-given, when-done, when-refused}
+use Rattle.words.proofs.Items.{item-getD, item-inside, item-end, each-eq}
+use Rattle.words.proofs.Loops.{length-each, put-next}
+use Rattle.mode.specs.Table.{hasDepth, pce-sprite}
+use Rattle.tile.specs.Inner.{Unpacks}
+use Rattle.tile.specs.Packings.{byteCount, unpackedIn}
+use Rattle.tile.specs.Tile.{packingOf, layoutOf, unpacked}
+use Rattle.tile.specs.declared.Packing.{Packing}
+use Rattle.tile.proofs.Native.{Native, fitting}
+use Rattle.tile.proofs.RoundTrip.{length-spread}
+use Rattle.flip.proofs.Group.{place-lt, place-row, place-column}
+use Rattle.tileset.specs.Sets.{isSize, setSays, setRoom, heldSays, noSet}
+use Rattle.tileset.specs.Numbers.{rowCells, startsAt, firstCell, Grid}
+use Rattle.tileset.specs.Reading.{lastCell, wholeTiles, readCount, readableSays, readChecks, readSays, readSet, cellIn, pixelIn, rowIn, tileIn, readPixels, cellsIn, placeIn, rowOf, Reads}
+use Rattle.tileset.specs.declared.Set.{Set}
+use Rattle.tileset.specs.declared.SetAnswer.{SetAnswer}
+use Rattle.tileset.proofs.Sizes.{IsSet, set-of, grid-set, bits-some}
+use Rattle.tileset.proofs.Says.{next-given, held-0, refused-set, done-set}
+use Rattle.tileset.proofs.NumberLaws.{row-some, start-row, start-across}
+
+-- ---- how many tiles are whole
+
+module _ (r h v : ℕ) (g : Grid r h v) (c : ℕ) where
+  abbrev strip : ℕ
+  strip = v * r
+
+  abbrev tiles : ℕ
+  tiles = r / h
+
+  abbrev rest : ℕ
+  rest = c % strip - (v - 1) * r
+
+  pub strip-some : 0 < strip
+  strip-some = mul-pos (g .down) (row-some r h v g)
+
+  pub whole-fits : c / strip * tiles ≤ c / strip * strip
+  whole-fits =
+      let one : 1 * r ≤ v * r = mul-le-mul-right r (g .down) in
+      mul-le-mul-left (c / strip) (omega (arith, div-le-self r h, one))
+
+  pub count-fits : c / strip * tiles + rest / h ≤ c
+  count-fits = omega (arith, whole-fits, div-le-self rest h, div-add-mod' c strip)
+
+  -- no tile of a strip that ends before its last row of cells
+  pub whole-only : c % strip < (v - 1) * r → c / strip * tiles ≡ wholeTiles r h v c
+  unfolding wholeTiles
+  whole-only lt =
+      let none : rest ≡ 0 = omega arith in
+      sym (ap (λ (k : ℕ). c / strip * tiles + k / h) none ∙ ap (λ (k : ℕ). c / strip * tiles + k) (zero-div h) ∙ add-zero (c / strip * tiles))
+
+  -- a strip of cells is the rows above the last one, and the last
+  strip-is : strip ≡ (v - 1) * r + r
+  strip-is =
+      let e : v ≡ v - 1 + 1 = omega (arith, g .down) in
+      ap (λ (k : ℕ). k * r) e ∙ add-mul (v - 1) 1 r ∙ ap (λ (k : ℕ). (v - 1) * r + k) (one-mul r)
+
+  last-few : rest / h < tiles
+  last-few =
+      let few : c % strip < strip = mod-lt c strip-some in
+      div-lt-iff-lt-mul (g .across) .1 (omega (arith, strip-is, sym (g .row), row-some r h v g))
+
+  -- the tile in row i of tiles and column j
+  starts : (i j : ℕ) → j < tiles → lastCell r h v (i * tiles + j) ≡ i * strip + j * h + (v - 1) * r + (h - 1)
+  unfolding startsAt
+  starts i j lt = rw (place-row tiles i j lt, place-column tiles i j lt, mul-assoc i v r)
+
+  -- "stops at the first incomplete tile": tile n is not complete where n is the count
+  pub next-incomplete : c ≤ lastCell r h v (wholeTiles r h v c)
+  unfolding wholeTiles
+  next-incomplete =
+      rw (starts (c / strip) (rest / h) last-few)
+      (omega (arith, div-add-mod' c strip, div-add-mod' rest h, mod-lt rest (g .across)))
+
+  -- and every tile before it is
+  complete-case : (i j : ℕ) → j < tiles → i * tiles + j < c / strip * tiles + rest / h → (b : Bool) → ltb i (c / strip) ≡ b
+      → i * strip + j * h + (v - 1) * r + (h - 1) < c
+  complete-case i j lt before true e =
+      let last : j * h + h ≤ tiles * h = item-inside h tiles j lt in
+      let all : i * strip + strip ≤ c / strip * strip = item-inside strip (c / strip) i (ltb-true i (c / strip) e) in
+      omega (arith, strip-is, sym (g .row), g .across, div-add-mod' c strip)
+  complete-case i j lt before false e =
+      let from : c / strip ≤ i = ltb-false i (c / strip) e in
+      let upto : i < c / strip + 1 = lt-of-mul-lt-mul-right tiles (omega (arith, add-mul (c / strip) 1 tiles, last-few)) in
+      let same : i ≡ c / strip = omega arith in
+      let few : j < rest / h = omega (arith, ap (λ (k : ℕ). k * tiles) same) in
+      let cells : j * h + h ≤ rest / h * h = item-inside h (rest / h) j few in
+      omega (arith, ap (λ (k : ℕ). k * strip) same, div-add-mod' c strip, div-add-mod' rest h, g .across)
+
+  pub tile-complete : (n : ℕ) → n < wholeTiles r h v c → lastCell r h v n < c
+  unfolding wholeTiles
+  tile-complete n lt =
+      let e : n / tiles * tiles + n % tiles ≡ n = div-add-mod' n tiles in
+      let small : n % tiles < tiles = mod-lt n (g .tiles) in
+      let there = complete-case (n / tiles) (n % tiles) small (omega arith) (ltb (n / tiles) (c / strip)) refl in
+      subst (λ (k : ℕ). lastCell r h v k < c) e (rw (starts (n / tiles) (n % tiles) small) there)
+
+-- ---- the checks
+
+zero-second : (n : ℕ) (ns : List ℕ) → firstApplying (n ∷ 0 ∷ ns) ≡ firstApplying (n ∷ ns)
+zero-second zero ns = refl
+zero-second (suc n) ns = refl
+
+module _ (m d w h : ℕ) where
+  pub readable-2 : m ≡ pce-sprite → 2 ≡ readableSays m d w h
+  unfolding readableSays
+  readable-2 e = rw e
+
+  pub readable-set : (m ≡ pce-sprite → ⊥) → setSays m d w h ≡ readableSays m d w h
+  unfolding readableSays setSays
+  readable-set other =
+      sym (zero-second (1 when ltb 15 m) (3 when not (hasDepth m d) ∷ 4 when not (isSize m w h) ∷ []))
+      ∙ ap (λ (b : Bool). firstApplying (1 when ltb 15 m ∷ 2 when b ∷ 3 when not (hasDepth m d) ∷ 4 when not (isSize m w h) ∷ [])) (sym (ne-eqb m pce-sprite other))
+
+  module _ (z : readableSays m d w h ≡ 0) where
+    pub readable-mode : m ≡ pce-sprite → ⊥
+    readable-mode e = let q : _≡_ {A = ℕ} 2 0 = readable-2 e ∙ z in omega arith
+
+    pub readable-says-set : setSays m d w h ≡ 0
+    readable-says-set = readable-set readable-mode ∙ z
+
+  module _ (len space : ℕ) where
+    abbrev count : ℕ
+    count = readCount m d w h len
+
+    pub read-first : (n : ℕ) → n ≡ readableSays m d w h → (n ≡ 0 → ⊥) → n ≡ readSays m d w h len space
+    unfolding readSays
+    read-first n e due =
+        first-given n (7 when not (eqb (len % (d * 8)) 0) ∷ 11 when ltb space (count * (w * h)) ∷ 12 when ltb 65535 count ∷ []) e due
+
+    module _ (z : readableSays m d w h ≡ 0) where
+      after : readSays m d w h len space ≡ firstApplying (7 when not (eqb (len % (d * 8)) 0) ∷ 11 when ltb space (count * (w * h)) ∷ 12 when ltb 65535 count ∷ [])
+      unfolding readSays
+      after = next-given (7 when not (eqb (len % (d * 8)) 0) ∷ 11 when ltb space (count * (w * h)) ∷ 12 when ltb 65535 count ∷ []) z
+
+      pub read-7 : (len % (d * 8) ≡ 0 → ⊥) → 7 ≡ readSays m d w h len space
+      read-7 part = rw (after, ne-eqb (len % (d * 8)) 0 part)
+
+      pub read-11 : len % (d * 8) ≡ 0 → space < count * (w * h) → 11 ≡ readSays m d w h len space
+      read-11 whole lt = rw (after, eq-eqb (len % (d * 8)) 0 whole, lt-ltb space (count * (w * h)) lt)
+
+      pub read-12 : len % (d * 8) ≡ 0 → count * (w * h) ≤ space → 65535 < count → 12 ≡ readSays m d w h len space
+      read-12 whole le lt = rw (after, eq-eqb (len % (d * 8)) 0 whole, le-ltb space (count * (w * h)) le, lt-ltb 65535 count lt)
+
+      pub read-0 : len % (d * 8) ≡ 0 → count * (w * h) ≤ space → count ≤ 65535 → 0 ≡ readSays m d w h len space
+      read-0 whole le few = rw (after, eq-eqb (len % (d * 8)) 0 whole, le-ltb space (count * (w * h)) le, le-ltb 65535 count few)
+
+    module _ (z : readSays m d w h len space ≡ 0) where
+      pub read-readable : readableSays m d w h ≡ 0
+      unfolding readSays
+      read-readable = all-passed (readChecks m d w h len space) z 0
+
+      pub read-space : count * (w * h) ≤ space
+      unfolding readSays
+      read-space = ltb-false space (count * (w * h)) (not-given 10 (ltb space (count * (w * h))) (all-passed (readChecks m d w h len space) z 2))
+
+      pub read-few : count ≤ 65535
+      unfolding readSays
+      read-few = ltb-false 65535 count (not-given 11 (ltb 65535 count) (all-passed (readChecks m d w h len space) z 3))
+
+      -- what was read is a set in its store
+      pub read-held : (flips : Bool) → heldSays (readSet m d w h flips count) space ≡ 0
+      unfolding setRoom
+      read-held flips =
+          let s = set-of m d w h (readable-says-set read-readable) in
+          let whole : count ≤ space / (w * h) = le-div-iff-mul-le {k = w * h} (mul-pos (s .some) (s .tall)) .1 read-space in
+          sym (held-0 (readSet m d w h flips count) space (readable-says-set read-readable) (omega (arith, read-few)))
+
+-- ---- cells
+
+-- unpacking one of several native cells of a buffer
+module _ {m d : ℕ} (n : Native m d 8 8) where
+  cell-bytes : byteCount (packingOf m d 8 8) ≡ d * 8
+  cell-bytes = fitting n .bytes ∙ omega arith
+
+  pub cell-in-length : (bytes : List ℕ) (c : ℕ) → length (cellIn m d bytes c) ≡ 64
+  cell-in-length bytes c = length-spread (layoutOf m d 8 8 .pixels) (take (d * 8) (drop (c * (d * 8)) bytes)) ∙ fitting n .pixels
+
+  module _ {p : Packing} (q : p ≡ packingOf m d 8 8) where
+    pub unpacks-at : (bytes out : List ℕ) (from at : ℕ) → from + d * 8 ≤ length bytes → at + 64 ≤ length out → Unpacks p bytes from out at
+    unpacks-at bytes out from at inside space =
+        subst (λ (k : Packing). Unpacks k bytes from out at) (sym q)
+        (record { sound = fitting n .sound; inside = omega (arith, cell-bytes); space = omega (arith, fitting n .pixels) })
+
+    pub unpacks-cell : (bytes : List ℕ) (from : ℕ) → unpackedIn p (take (byteCount p) (drop from bytes)) ≡ unpacked m d 8 8 (take (d * 8) (drop from bytes))
+    unpacks-cell bytes from =
+        ap (λ (k : Packing). unpackedIn k (take (byteCount k) (drop from bytes))) q ∙ ap (λ (k : ℕ). unpacked m d 8 8 (take k (drop from bytes))) cell-bytes
+
+-- a tile has as many pixels as its cells
+pub cells-area : {m d w h : ℕ} → IsSet m d w h → w / 8 * (h / 8) * 64 ≡ w * h
+cells-area {w} {h} s =
+    let v = h / 8 in
+    omega (arith, ap (λ (k : ℕ). k * h) (s .across), ap (λ (k : ℕ). w / 8 * 8 * k) (s .down), mul-assoc (w / 8) 8 (v * 8), mul-assoc (w / 8) v 8, mul-left-comm 8 v 8)
+
+pub starts-few : (r h v : ℕ) → Grid r h v → (n : ℕ) → n ≤ 65535 → startsAt r h v n ≤ 9437040
+unfolding startsAt
+starts-few r h v g n few = omega (arith, start-row r h v g n few, start-across r h v g n few)
+
+-- no cell of a tile comes after its last one
+pub cells-before : (r h v n i j : ℕ) → i < v → j < h → startsAt r h v n + i * r + j ≤ lastCell r h v n
+cells-before r h v n i j hi hj =
+    let rows : i * r ≤ (v - 1) * r = mul-le-mul-right r (omega arith) in
+    omega arith
+
+-- the cells of a tile stand before its last one, and so among the bytes
+module _ (r h v : ℕ) (g : Grid r h v) (n k : ℕ) (lt : k < h * v) where
+  pub cell-row : k / h < v
+  cell-row = div-lt-iff-lt-mul (g .across) .1 (omega (arith, mul-comm h v))
+
+  pub cell-before : startsAt r h v n + k / h * r + k % h ≤ lastCell r h v n
+  cell-before = cells-before r h v n (k / h) (k % h) cell-row (mod-lt k (g .across))
+
+  pub cell-inside : (size len : ℕ) → (lastCell r h v n + 1) * size ≤ len → (startsAt r h v n + k / h * r + k % h) * size + size ≤ len
+  cell-inside size len fits =
+      let cell = startsAt r h v n + k / h * r + k % h in
+      let one : (cell + 1) * size ≤ (lastCell r h v n + 1) * size = mul-le-mul-right size (omega (arith, cell-before)) in
+      omega (arith, item-end size cell)
+
+  pub cell-row-fits : k / h * r ≤ 128
+  cell-row-fits = le-trans (mul-le-mul (cell-row-few) (g .narrow)) (omega arith)
+    where
+      cell-row-few : k / h ≤ 8
+      cell-row-few = omega (arith, cell-row, g .low)
+
+-- ---- the loop that puts items of k bytes one after the other, from place at on
+
+pub record FillingAt (f : ℕ → List ℕ) (k : ℕ) (out : List ℕ) (at i : ℕ) (now : List ℕ) : Type 0 where
+  pub is : now ≡ (take at out ++ each i f) ++ drop (at + i * k) out
+  pub long : length now ≡ length out
+
+pub fill-at-none : (f : ℕ → List ℕ) (k : ℕ) (out : List ℕ) (at : ℕ) → FillingAt f k out at 0 out
+fill-at-none f k out at =
+    let e : at + 0 * k ≡ at = omega (arith, zero-mul k) in
+    record { is = sym (rw (append-nil, e) (take-append-drop at out)); long = refl }
+
+pub fill-at-more : {f : ℕ → List ℕ} {k : ℕ} {out now after : List ℕ} {at i : ℕ} → ((j : ℕ) → length (f j) ≡ k) → FillingAt f k out at i now → at + i * k + k ≤ length out
+    → after ≡ sets now (at + i * k) (f i) → FillingAt f k out at (i + 1) after
+fill-at-more {f} {k} {out} {now} {after} {at} {i} size h space e =
+    let front = take at out ++ each i f in
+    let len : length front ≡ at + i * k = length-append (take at out) (each i f) ∙ rw (length-take-le at out (omega arith), length-each i k f size) in
+    let end : at + i * k + k ≡ at + (i + 1) * k = omega (arith, item-end k i) in
+    record {
+      is =
+          e ∙ ap (λ (l : List ℕ). sets l (at + i * k) (f i)) (h .is)
+          ∙ put-next front (f i) out (at + i * k) k len (size i) space
+          ∙ ap (λ (l : List ℕ). l ++ drop (at + i * k + k) out) (append-assoc (take at out) (each i f) (f i))
+          ∙ ap (λ (j : ℕ). (take at out ++ each (suc i) f) ++ drop j out) end
+          ∙ ap (λ (j : ℕ). (take at out ++ each j f) ++ drop (at + (i + 1) * k) out) (sym (add-one i));
+      long = ap length e ∙ length-sets now (at + i * k) (f i) ∙ h .long;
+    }
+
+pub fill-at-all : {f : ℕ → List ℕ} {k : ℕ} {out now : List ℕ} {at i n : ℕ} → ((j : ℕ) → length (f j) ≡ k) → FillingAt f k out at i now → at + n * k ≤ length out → i ≡ n
+    → now ≡ sets out at (each n f)
+fill-at-all {f} {k} {out} {now} {at} {i} {n} size h space e =
+    let len : length (each n f) ≡ n * k = length-each n k f size in
+    h .is ∙ ap (λ (j : ℕ). (take at out ++ each j f) ++ drop (at + j * k) out) e
+    ∙ ap (λ (j : ℕ). (take at out ++ each n f) ++ drop (at + j) out) (sym len)
+    ∙ sym (sets-eq (each n f) out at (omega arith))
+
+-- one pixel more
+pub fill-at-one : {g : ℕ → ℕ} {out now : List ℕ} {at i v : ℕ} → FillingAt (λ k. g k ∷ []) 1 out at i now → at + i < length out → v ≡ g i
+    → FillingAt (λ k. g k ∷ []) 1 out at (i + 1) (set now (at + i) v)
+fill-at-one {g} {out} {now} {at} {i} {v} h space e =
+    fill-at-more (λ j. refl) h (omega arith) (ap (λ (x : ℕ). set now (at + i) x) e ∙ ap (λ (k : ℕ). set now (at + k) (g i)) (sym (mul-one i)))
+
+-- ---- the rows of a tile, out of its cells' pixels
+
+module _ (w y len : ℕ) (across : w ≡ w / 8 * 8) (fits : (y / 8 * 8 + 8) * w ≤ len) where
+  pub place-inside : (x : ℕ) → x < w → placeIn w y x < len
+  place-inside x lt =
+      let a = y / 8 * (w / 8) in
+      let row : (y / 8 * 8 + 8) * w ≡ (a + w / 8) * 64 =
+      omega (arith, add-mul (y / 8 * 8) 8 w, mul-assoc (y / 8) 8 w, ap (λ (k : ℕ). y / 8 * k) across, mul-assoc (y / 8) (w / 8) 8) in
+      omega (arith, mul-le-mul-right 64 (cells x lt))
+    where
+      cells : (x : ℕ) → x < w → y / 8 * (w / 8) + x / 8 + 1 ≤ y / 8 * (w / 8) + w / 8
+      cells x lt = omega (arith, across)
+
+-- the cells that row y of a tile lies in
+pub rows-inside : (w h y len : ℕ) → h ≡ h / 8 * 8 → w * h ≤ len → y < h → (y / 8 * 8 + 8) * w ≤ len
+rows-inside w h y len down fits lt =
+    let rows : (y / 8 * 8 + 8) * w ≤ h * w = mul-le-mul-right w (omega (arith, down)) in
+    omega (arith, mul-comm w h)
+
+pub row-length : (w : ℕ) (cells : List ℕ) (y : ℕ) → length (rowOf w cells y) ≡ w
+row-length w cells y = length-each w 1 (λ x. getD cells (placeIn w y x) 0 ∷ []) (λ x. refl) ∙ mul-one w
+
+-- they are the rows of the tile
+module _ {m d w h : ℕ} (s : IsSet m d w h) (n : Native m d 8 8) (bytes rest : List ℕ) (t : ℕ) where
+  abbrev f : ℕ → List ℕ
+  f k = cellIn m d bytes (firstCell m w h t + k / (w / 8) * rowCells m + k % (w / 8))
+
+  pixel-is : (y x : ℕ) → y < h → x < w → getD (cellsIn m d w h bytes t ++ rest) (placeIn w y x) 0 ≡ pixelIn m d w h bytes t y x
+  pixel-is y x hy hx =
+      let hw = w / 8 in
+      let i = y / 8 * hw + x / 8 in
+      let j = y % 8 * 8 + x % 8 in
+      let size : (k : ℕ) → length (f k) ≡ 64 = λ k. cell-in-length n bytes (firstCell m w h t + k / hw * rowCells m + k % hw) in
+      let column : x / 8 < hw = omega (arith, s .across) in
+      let in-tile : i < hw * (h / 8) = place-lt hw (h / 8) (y / 8) (x / 8) (omega (arith, s .down)) column in
+      let small : j < 64 = omega arith in
+      let place : placeIn w y x ≡ i * 64 + j = omega arith in
+      let inside : i * 64 + j < length (each (hw * (h / 8)) f) = omega (arith, length-each (hw * (h / 8)) 64 f size, item-inside 64 (hw * (h / 8)) i in-tile) in
+      ap (λ (k : ℕ). getD (each (hw * (h / 8)) f ++ rest) k 0) place
+      ∙ List·getD-append (each (hw * (h / 8)) f) rest 0 (i * 64 + j) inside
+      ∙ item-getD 64 f size (hw * (h / 8)) i in-tile j small
+      ∙ ap (λ (k : ℕ). getD (cellIn m d bytes (firstCell m w h t + k * rowCells m + i % hw)) j 0) (place-row hw (y / 8) (x / 8) column)
+      ∙ ap (λ (k : ℕ). getD (cellIn m d bytes (firstCell m w h t + y / 8 * rowCells m + k)) j 0) (place-column hw (y / 8) (x / 8) column)
+
+  -- the buffer is as long with them as it was
+  pub cells-long : (before cells : List ℕ) → cells ≡ overwrite before (cellsIn m d w h bytes t) → length before ≡ 4096 → length cells ≡ 4096
+  cells-long before cells e long =
+      let new = cellsIn m d w h bytes t in
+      let len : length new ≡ w / 8 * (h / 8) * 64 = length-each (w / 8 * (h / 8)) 64 f (λ k. cell-in-length n bytes (firstCell m w h t + k / (w / 8) * rowCells m + k % (w / 8))) in
+      ap length e ∙ length-append new (drop (length new) before) ∙ omega (arith, length-drop (length new) before, cells-area s, s .small)
+
+  pub rows-are : (cells : List ℕ) → cells ≡ cellsIn m d w h bytes t ++ rest → each h (rowOf w cells) ≡ tileIn m d w h bytes t
+  rows-are cells e =
+      each-eq h (rowOf w cells) (rowIn m d w h bytes t)
+      (λ y hy. each-eq w (λ x. getD cells (placeIn w y x) 0 ∷ []) (λ x. pixelIn m d w h bytes t y x ∷ [])
+      (λ x hx. ap (λ (k : ℕ). k ∷ []) (ap (λ (l : List ℕ). getD l (placeIn w y x) 0) e ∙ pixel-is y x hy hx)))
+
+pub tile-length : (m d w h : ℕ) (bytes : List ℕ) (n : ℕ) → length (tileIn m d w h bytes n) ≡ w * h
+tile-length m d w h bytes n =
+    length-each h w (rowIn m d w h bytes n) (λ y. length-each w 1 (λ x. pixelIn m d w h bytes n y x ∷ []) (λ x. refl) ∙ mul-one w) ∙ mul-comm h w
+
+-- ---- the tiles
+
+module _ {m d w h : ℕ} (s : IsSet m d w h) (other : m ≡ pce-sprite → ⊥) (len : ℕ) where
+  -- the bytes have the cells of each tile that is read
+  pub tile-inside : (n : ℕ) → n < readCount m d w h len → (lastCell (rowCells m) (w / 8) (h / 8) n + 1) * (d * 8) ≤ len
+  tile-inside n lt =
+      let size : 0 < d * 8 = omega (arith, bits-some s) in
+      let last = tile-complete (rowCells m) (w / 8) (h / 8) (grid-set s other) (len / (d * 8)) n lt in
+      le-div-iff-mul-le {k = d * 8} size .0 (omega arith)
+
+-- ---- the promise
+
+module _ (m d w h : ℕ) (flips : Bool) (bytes store : List ℕ) where
+  abbrev due : ℕ
+  due = readSays m d w h (length bytes) (length store)
+
+  abbrev result : Set
+  result = readSet m d w h flips (readCount m d w h (length bytes))
+
+  module _ {r : SetAnswer} {left : List ℕ} where
+    pub refuse-read : (n : ℕ) → n ≡ due → (n ≡ 0 → ⊥) → r ≡ record { refusal = n; set = noSet } → left ≡ store → Reads m d w h flips bytes store r left
+    refuse-read n e some a l =
+        record {
+          answer = a ∙ refused-set n result noSet e some;
+          lent = l ∙ sym (when-refused due (overwrite store (readPixels m d w h bytes)) store (λ q. some (e ∙ q)));
+        }
+
+    pub done-read : due ≡ 0 → r ≡ record { refusal = 0; set = result } → left ≡ overwrite store (readPixels m d w h bytes) → Reads m d w h flips bytes store r left
+    done-read e a l =
+        record {
+          answer = a ∙ done-set result noSet e;
+          lent = l ∙ sym (when-done due (overwrite store (readPixels m d w h bytes)) store e);
+        }

@@ -1,0 +1,84 @@
+-- Refused, stored or discarded.
+use mathlib.Core.Path.{_≡_, refl, sym, _∙_}
+use lib.ListN.{length}
+use denote.Ref.{now}
+use borrow.Author.Tests.{not-true, not-false}
+use borrow.Author.Needs.{needs}
+use Rattle.tileset.specs.Sets.{lookSays}
+use Rattle.tileset.proofs.Says.{looks-of}
+use Rattle.tileset.proofs.AddingLaws.{keep-off, keep-new, drop-found, refuse-add, keep-add, drop-add}
+use Rattle.tileset.proofs.adding.add.Statement.{statement}
+use Rattle.tileset.proofs.adding.add.Tie as tie
+
+fine : (c : tie.Else1) → lookSays (c .before .before .before .before .args .set) (length (now (c .before .before .before .before .args .store))) (length (now (c .before .before .before .before .args .pixels))) ≡ 0
+fine c = sym (c .before .look-says .ensures) ∙ c .if1 .left
+
+look-says-requires : tie.Need-look-says-requires
+look-says-requires c κs = search needs
+
+returns : tie.Need-returns
+returns c =
+    let a = c .before .before .before .before .args in
+    refuse-add (a .set) (now (a .store)) (now (a .pixels)) (c .before .look-says .result) (c .before .look-says .ensures) (c .if1 .taken) refl refl
+
+append-requires : tie.Need-append-requires
+append-requires c κs = looks-of _ _ _ (fine (c .before .before .before))
+
+same-length : tie.Need-same-length
+same-length c = search needs
+
+returns-2 : tie.Need-returns-2
+returns-2 c =
+    let a = c .before .before .before .before .before .before .before .before .before .before .args in
+    keep-add (a .set) (now (a .store)) (now (a .pixels)) (fine (c .before .before .before .before .before .before)) (keep-off (a .set) _ _ (not-true (a .set .discarding) (c .before .before .before .before .if2 .taken))) (c .before .before .append .ensures)
+
+found-in-requires : tie.Need-found-in-requires
+found-in-requires c κs = looks-of _ _ _ (fine (c .before .before .before))
+
+enum-told : tie.Need-enum-told
+enum-told c = search needs
+
+enum-told-2 : tie.Need-enum-told-2
+enum-told-2 c = search needs
+
+append-requires-2 : tie.Need-append-requires-2
+append-requires-2 c κs = looks-of _ _ _ (fine (c .before .before .before .before .before .before .before))
+
+same-length-2 : tie.Need-same-length-2
+same-length-2 c = search needs
+
+returns-3 : tie.Need-returns-3
+returns-3 c =
+    let a = c .before .before .before .before .before .before .before .before .before .before .before .before .before .before .args in
+    keep-add (a .set) (now (a .store)) (now (a .pixels)) (fine (c .before .before .before .before .before .before .before .before .before .before)) (keep-new (a .set) _ _ (sym (c .before .before .before .before .before .before .found-in .ensures) ∙ c .before .before .before .before .enum-told2 .given .1)) (c .before .before .append2 .ensures)
+
+discard-requires : tie.Need-discard-requires
+discard-requires c κs = search needs
+
+same-length-3 : tie.Need-same-length-3
+same-length-3 c = search needs
+
+returns-4 : tie.Need-returns-4
+returns-4 c =
+    let a = c .before .before .before .before .before .before .before .before .before .before .before .args in
+    drop-add (a .set) (now (a .store)) (now (a .pixels)) (fine (c .before .before .before .before .before .before .before))
+    (drop-found (a .set) _ _ (not-false (a .set .discarding) (c .before .before .before .before .before .if2 .left)) (sym (c .before .before .before .found-in .ensures) ∙ c .before .enum-told .given .1)) (c .discard .ensures) refl
+
+pub add-spec : {M : Type 1} → statement M
+add-spec =
+    tie.close
+    (tie.spec
+    look-says-requires
+    returns
+    append-requires
+    same-length
+    returns-2
+    found-in-requires
+    enum-told
+    enum-told-2
+    append-requires-2
+    same-length-2
+    returns-3
+    discard-requires
+    same-length-3
+    returns-4)

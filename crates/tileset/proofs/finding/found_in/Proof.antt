@@ -1,0 +1,67 @@
+-- The pixels are cut into a buffer, and looked for.
+use mathlib.Core.Path.{_≡_, ap, _∙_}
+use mathlib.Core.List.{List}
+use Prim.Native.Nat.{ℕ}
+use native.Mathlib.Omega.{arith}
+use lib.ListN.{length, take, length-take}
+use denote.Ref.{now}
+use borrow.Author.Needs.{needs}
+use Rattle.tileset.specs.Sets.{area}
+use Rattle.tileset.specs.Finding.{cutTo, tilesIn, lookUp, foundIn}
+use Rattle.tileset.proofs.Stores.{length-cut, cut-front}
+use Rattle.tileset.proofs.finding.found_in.Statement.{statement}
+use Rattle.tileset.proofs.finding.found_in.Tie as tie
+
+tile-is : (c : tie.After-put-cut) → take (length (now (c .before .before .before .before .args .pixels))) (c .put-cut .last .1 .1 .0) ≡ cutTo (c .before .before .before .before .args .set .depth) (now (c .before .before .before .before .args .pixels))
+tile-is c =
+    ap (take (length (now (c .before .before .before .before .args .pixels)))) (c .put-cut .ensures)
+    ∙ cut-front (c .before .before .before .before .args .set .depth) (now (c .before .before .before .before .args .pixels)) _ (omega (arith, c .before .before .before .before .pre .whole, c .before .before .before .before .pre .small))
+
+slice-aggregate-put-cut : tie.Need-slice-aggregate-put-cut
+slice-aggregate-put-cut c = search needs
+
+put-cut-requires : tie.Need-put-cut-requires
+put-cut-requires c κs = search needs
+
+array-share-prefix-tile : tie.Need-array-share-prefix-tile
+array-share-prefix-tile c = search needs
+
+slice-aggregate-find : tie.Need-slice-aggregate-find
+slice-aggregate-find c = simp length-take (omega (arith, c .before .before .before .before .before .before .pre .whole, c .before .before .before .before .before .before .pre .small))
+
+cast-find : tie.Need-cast-find
+cast-find c = search needs
+
+cast-find-2 : tie.Need-cast-find-2
+cast-find-2 c = search needs
+
+find-requires : tie.Need-find-requires
+find-requires c κs =
+    let s = c .before .before .before .before .before .before .before .before in
+    record {
+      some = s .pre .some;
+      eights = s .pre .eights;
+      small = s .pre .small;
+      inside = s .pre .inside;
+      whole = ap length (tile-is (c .before .before .before .before)) ∙ length-cut (s .args .set .depth) _ ∙ s .pre .whole;
+    }
+
+returns : tie.Need-returns
+unfolding foundIn
+returns c =
+    let a = c .before .before .before .before .before .before .before .before .before .args in
+    let z = a .set in
+    c .find .ensures ∙ ap (λ (t : List ℕ). lookUp (z .flips) (z .width) (z .height) (tilesIn (area z) (now (a .store)) (z .stored)) t) (tile-is (c .before .before .before .before .before))
+
+pub found-in-spec : {M : Type 1} → statement M
+found-in-spec =
+    tie.close
+    (tie.spec
+    slice-aggregate-put-cut
+    put-cut-requires
+    array-share-prefix-tile
+    slice-aggregate-find
+    cast-find
+    cast-find-2
+    find-requires
+    returns)

@@ -1,0 +1,42 @@
+-- Refused, or what is found.
+use mathlib.Core.Path.{sym, ap, _∙_}
+use denote.Ref.{now}
+use borrow.Author.Needs.{needs}
+use Rattle.tileset.specs.Finding.{foundIn, placeOf}
+use Rattle.tileset.proofs.Says.{refused-place, done-place, looks-of}
+use Rattle.tileset.proofs.finding.look_up.Statement.{statement}
+use Rattle.tileset.proofs.finding.look_up.Tie as tie
+
+look-says-requires : tie.Need-look-says-requires
+look-says-requires c κs = search needs
+
+no-place-requires : tie.Need-no-place-requires
+no-place-requires c κs = search needs
+
+returns : tie.Need-returns
+returns c =
+    let a = c .before .before .before .before .before .args in
+    c .no-place .ensures ∙ refused-place (c .before .before .look-says .result) (foundIn (a .set) (now (a .store)) (now (a .pixels))) (c .before .before .look-says .ensures) (c .before .if1 .taken)
+
+found-in-requires : tie.Need-found-in-requires
+found-in-requires c κs = looks-of _ _ _ (sym (c .before .look-says .ensures) ∙ c .if1 .left)
+
+place-of-requires : tie.Need-place-of-requires
+place-of-requires c κs = search needs
+
+returns-2 : tie.Need-returns-2
+returns-2 c =
+    let a = c .before .before .before .before .before .before .args in
+    c .place-of .ensures ∙ ap placeOf (c .before .found-in .ensures)
+    ∙ done-place (foundIn (a .set) (now (a .store)) (now (a .pixels))) (sym (c .before .before .before .look-says .ensures) ∙ c .before .before .if1 .left)
+
+pub look-up-spec : {M : Type 1} → statement M
+look-up-spec =
+    tie.close
+    (tie.spec
+    look-says-requires
+    no-place-requires
+    returns
+    found-in-requires
+    place-of-requires
+    returns-2)

@@ -1,0 +1,74 @@
+-- The rows before y are put.
+use Prim.Native.Nat.{_+_, _-_, _*_, _≤_}
+use native.Mathlib.Nat.{mul-comm}
+use native.Mathlib.Omega.{arith}
+use lib.ListN.{length}
+use denote.Ref.{now}
+use borrow.Author.Needs.{needs}
+use Rattle.words.proofs.Items.{item-inside}
+use Rattle.tileset.specs.Reading.{rowOf}
+use Rattle.tileset.proofs.ReadingLaws.{FillingAt, fill-at-none, fill-at-more, fill-at-all, rows-inside, row-length}
+use Rattle.tileset.proofs.reading.put_rows.Statement.{statement}
+use Rattle.tileset.proofs.reading.put_rows.Tie as tie
+
+abbrev Inv-loop : tie.InvT-loop
+Inv-loop cells width height out₀ at y₀ out y = (y ≤ height) × FillingAt (rowOf width cells) width out₀ at y out
+
+abbrev μ-loop : tie.MeasureT-loop
+μ-loop cells width height out₀ at y₀ out y = height - y
+
+here : (c : tie.In-loop Inv-loop μ-loop) → let a = c .before .before .before .before .args in a .at + c .before .loop .y * a .width + a .width ≤ length (now (a .out))
+here c =
+    let a = c .before .before .before .before .args in
+    omega (arith, item-inside (a .width) (a .height) (c .before .loop .y) (c .loop-test .taken), mul-comm (a .width) (a .height), c .before .before .before .before .pre .space)
+
+loop-holds : tie.Need-loop-holds Inv-loop μ-loop
+loop-holds c = (search needs, fill-at-none _ _ _ _)
+
+mul-put-row : tie.Need-mul-put-row Inv-loop μ-loop
+mul-put-row c = omega (arith, here (c .before))
+
+add-put-row : tie.Need-add-put-row Inv-loop μ-loop
+add-put-row c = omega (arith, here (c .before))
+
+put-row-requires : tie.Need-put-row-requires Inv-loop μ-loop
+put-row-requires c κs =
+    let s = c .before .before .before .before .before in
+    record {
+      across = s .pre .across;
+      inside = rows-inside (s .args .width) (s .args .height) (c .before .before .loop .y) (length (now (s .args .cells))) (s .pre .down) (s .pre .inside) (c .before .loop-test .taken);
+      space = omega (arith, here (c .before), c .before .before .loop .inv .1 .long);
+    }
+
+add-y : tie.Need-add-y Inv-loop μ-loop
+add-y c = search needs
+
+loop-less : tie.Need-loop-less Inv-loop μ-loop
+loop-less c = search needs
+
+loop-again : tie.Need-loop-again Inv-loop μ-loop
+loop-again c = (search needs, fill-at-more (row-length (c .before .before .before .before .before .before .before .before .args .width) (now (c .before .before .before .before .before .before .before .before .args .cells))) (c .before .before .before .before .before .loop .inv .1) (here (c .before .before .before .before)) (c .before .before .put-row .ensures))
+
+same-length : tie.Need-same-length Inv-loop μ-loop
+same-length c = search needs
+
+returns : tie.Need-returns Inv-loop μ-loop
+returns c =
+    let s = c .before .before .before .before in
+    fill-at-all {n = s .args .height} (row-length (s .args .width) (now (s .args .cells))) (c .before .loop .inv .1) (omega (arith, s .pre .space, mul-comm (s .args .width) (s .args .height))) (omega arith)
+
+pub put-rows-spec : {M : Type 1} → statement M
+put-rows-spec =
+    tie.close
+    (tie.spec
+    Inv-loop
+    μ-loop
+    loop-holds
+    mul-put-row
+    add-put-row
+    put-row-requires
+    add-y
+    loop-less
+    loop-again
+    same-length
+    returns)

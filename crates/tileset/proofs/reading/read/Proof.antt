@@ -1,0 +1,69 @@
+-- Refused, or the tiles at the front of the store.
+use mathlib.Core.Path.{_≡_, refl, sym, ap, _∙_}
+use Prim.Native.Nat.{ℕ, _≤_}
+use native.Mathlib.Omega.{arith}
+use lib.ListN.{length}
+use denote.Ref.{now}
+use borrow.Author.Needs.{needs}
+use Rattle.tileset.specs.Reading.{readableSays, readCount, readSays, readSet}
+use Rattle.tileset.proofs.Says.{setAnswer}
+use Rattle.tileset.proofs.ReadingLaws.{readable-mode, readable-says-set, read-readable, read-space, read-few, refuse-read, done-read}
+use Rattle.tileset.proofs.reading.read.Statement.{statement}
+use Rattle.tileset.proofs.reading.read.Tie as tie
+
+module _ (c : tie.Else1) where
+  accepted : let a = c .before .before .before .before .args in readSays (a .mode) (a .depth) (a .width) (a .height) (length (now (a .bytes))) (length (now (a .store))) ≡ 0
+  accepted = sym (c .before .read-says .ensures) ∙ c .if1 .left
+
+  readable : let a = c .before .before .before .before .args in readableSays (a .mode) (a .depth) (a .width) (a .height) ≡ 0
+  readable = let a = c .before .before .before .before .args in read-readable (a .mode) (a .depth) (a .width) (a .height) (length (now (a .bytes))) (length (now (a .store))) accepted
+
+  few : let a = c .before .before .before .before .args in readCount (a .mode) (a .depth) (a .width) (a .height) (length (now (a .bytes))) ≤ 65535
+  few = let a = c .before .before .before .before .args in read-few (a .mode) (a .depth) (a .width) (a .height) (length (now (a .bytes))) (length (now (a .store))) accepted
+
+read-says-requires : tie.Need-read-says-requires
+read-says-requires c κs = search needs
+
+returns : tie.Need-returns
+returns c =
+    let a = c .before .before .before .before .args in
+    refuse-read (a .mode) (a .depth) (a .width) (a .height) (a .flips) (now (a .bytes)) (now (a .store)) (c .before .read-says .result) (c .before .read-says .ensures) (c .if1 .taken) refl refl
+
+read-count-requires : tie.Need-read-count-requires
+read-count-requires c κs = (readable-says-set _ _ _ _ (readable c), readable-mode _ _ _ _ (readable c))
+
+cast-count : tie.Need-cast-count
+cast-count c = omega (arith, few (c .before), c .read-count .ensures)
+
+put-read-requires : tie.Need-put-read-requires
+put-read-requires c κs =
+    let e = c .before .before in
+    let a = c .before .before .before .before .before .before .args in
+    record {
+      sound = readable-says-set _ _ _ _ (readable e);
+      cells = readable-mode _ _ _ _ (readable e);
+      few = omega (arith, few e, c .before .read-count .ensures);
+      is = c .before .read-count .ensures;
+      space = rw (c .before .read-count .ensures) (read-space (a .mode) (a .depth) (a .width) (a .height) (length (now (a .bytes))) (length (now (a .store))) (accepted e));
+    }
+
+same-length : tie.Need-same-length
+same-length c = search needs
+
+returns-2 : tie.Need-returns-2
+returns-2 c =
+    let a = c .before .before .before .before .before .before .before .before .before .args in
+    done-read (a .mode) (a .depth) (a .width) (a .height) (a .flips) (now (a .bytes)) (now (a .store)) (accepted (c .before .before .before .before .before))
+    (ap (λ (k : ℕ). setAnswer 0 (readSet (a .mode) (a .depth) (a .width) (a .height) (a .flips) k)) (c .before .before .before .before .read-count .ensures)) (c .before .before .put-read .ensures)
+
+pub read-spec : {M : Type 1} → statement M
+read-spec =
+    tie.close
+    (tie.spec
+    read-says-requires
+    returns
+    read-count-requires
+    cast-count
+    put-read-requires
+    same-length
+    returns-2)

@@ -1,0 +1,53 @@
+-- The checks of the size, then the room.
+use mathlib.Core.Path.{sym, _∙_}
+use native.Mathlib.Nat.{mul-pos}
+use native.Mathlib.Omega.{arith}
+use borrow.Author.Needs.{needs}
+use Rattle.tileset.proofs.Sizes.{IsSet, set-of}
+use Rattle.tileset.proofs.Says.{held-first, held-6, held-0}
+use Rattle.tileset.proofs.sets.held_says.Statement.{statement}
+use Rattle.tileset.proofs.sets.held_says.Tie as tie
+
+sound : (c : tie.Else1) → IsSet (c .before .before .args .set .mode) (c .before .before .args .set .depth) (c .before .before .args .set .width) (c .before .before .args .set .height)
+sound c = set-of _ _ _ _ (sym (c .before .set-says .ensures) ∙ c .if1 .left)
+
+set-says-requires : tie.Need-set-says-requires
+set-says-requires c κs = search needs
+
+returns : tie.Need-returns
+returns c = held-first (c .before .before .args .set) _ (c .before .set-says .result) (c .before .set-says .ensures) (c .if1 .taken)
+
+mul-n : tie.Need-mul-n
+mul-n c = omega (arith, sound (c .before) .small)
+
+cast-n : tie.Need-cast-n
+cast-n c = omega (arith, sound (c .before) .small)
+
+div-room : tie.Need-div-room
+div-room c = mul-pos (sound (c .before) .some) (sound (c .before) .tall)
+
+room-requires : tie.Need-room-requires
+room-requires c κs = search needs
+
+cast-if2 : tie.Need-cast-if2
+cast-if2 c = search needs
+
+returns-2 : tie.Need-returns-2
+returns-2 c = held-6 (c .before .before .before .before .before .before .args .set) _ (sym (c .before .before .before .before .before .set-says .ensures) ∙ c .before .before .before .before .if1 .left) (omega (arith, c .before .before .room .ensures, c .if2 .taken))
+
+returns-3 : tie.Need-returns-3
+returns-3 c = held-0 (c .before .before .before .before .before .before .args .set) _ (sym (c .before .before .before .before .before .set-says .ensures) ∙ c .before .before .before .before .if1 .left) (omega (arith, c .before .before .room .ensures, c .if2 .left))
+
+pub held-says-spec : {M : Type 1} → statement M
+held-says-spec =
+    tie.close
+    (tie.spec
+    set-says-requires
+    returns
+    mul-n
+    cast-n
+    div-room
+    room-requires
+    cast-if2
+    returns-2
+    returns-3)

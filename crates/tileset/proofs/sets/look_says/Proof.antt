@@ -1,0 +1,33 @@
+-- The checks of the set and its store, then the pixels.
+use mathlib.Core.Path.{sym, _∙_}
+use native.Mathlib.Omega.{arith}
+use borrow.Author.Needs.{needs}
+use Rattle.tileset.proofs.Sizes.{IsSet}
+use Rattle.tileset.proofs.Says.{held-set, look-first, look-7, look-0}
+use Rattle.tileset.proofs.sets.look_says.Statement.{statement}
+use Rattle.tileset.proofs.sets.look_says.Tie as tie
+
+sound : (c : tie.Else1) → IsSet (c .before .before .args .set .mode) (c .before .before .args .set .depth) (c .before .before .args .set .width) (c .before .before .args .set .height)
+sound c = held-set (c .before .before .args .set) _ (sym (c .before .held-says .ensures) ∙ c .if1 .left)
+
+held-says-requires : tie.Need-held-says-requires
+held-says-requires c κs = search needs
+
+returns : tie.Need-returns
+returns c = look-first (c .before .before .args .set) _ _ (c .before .held-says .result) (c .before .held-says .ensures) (c .if1 .taken)
+
+mul-if2 : tie.Need-mul-if2
+mul-if2 c = omega (arith, sound (c .before) .small)
+
+cast-if2 : tie.Need-cast-if2
+cast-if2 c = omega (arith, sound (c .before) .small)
+
+returns-2 : tie.Need-returns-2
+returns-2 c = look-7 (c .before .before .before .before .args .set) _ _ (sym (c .before .before .before .held-says .ensures) ∙ c .before .before .if1 .left) (c .if2 .taken)
+
+returns-3 : tie.Need-returns-3
+returns-3 c = look-0 (c .before .before .before .before .args .set) _ _ (sym (c .before .before .before .held-says .ensures) ∙ c .before .before .if1 .left) (c .if2 .left)
+
+pub look-says-spec : {M : Type 1} → statement M
+look-says-spec =
+    tie.close (tie.spec held-says-requires returns mul-if2 cast-if2 returns-2 returns-3)

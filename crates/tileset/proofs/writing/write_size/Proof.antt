@@ -1,0 +1,74 @@
+-- Sprites by tiles, the others by cells.
+use mathlib.Core.Path.{ap}
+use Prim.Native.Nat.{ℕ, _*_, _/_, _≤_}
+use native.Mathlib.Nat.{mul-le-mul}
+use native.Mathlib.Omega.{arith}
+use borrow.Author.Tests.{eq-eqb, ne-eqb}
+use Rattle.tileset.specs.Writing.{writeSize}
+use Rattle.tileset.proofs.Sizes.{IsSet, set-of, grid-set}
+use Rattle.tileset.proofs.writing.write_size.Statement.{statement}
+use Rattle.tileset.proofs.writing.write_size.Tie as tie
+
+module _ (c : tie.Start) where
+  sound : let z = c .args .set in IsSet (z .mode) (z .depth) (z .width) (z .height)
+  sound = set-of _ _ _ _ (c .pre .0)
+
+  bits-few : let z = c .args .set in z .width * z .height * z .depth ≤ 4096 * 8
+  bits-few = mul-le-mul (sound .small) (sound .deep)
+
+  few : let z = c .args .set in z .width * z .height * z .depth / 8 ≤ 4096
+  few = omega (arith, bits-few)
+
+  bytes-few : let z = c .args .set in z .stored * (z .width * z .height * z .depth / 8) ≤ 65535 * 4096
+  bytes-few = mul-le-mul (c .pre .1) few
+
+  eights : c .args .set .depth * 8 ≤ 64
+  eights = omega (arith, sound .deep)
+
+mul-size : tie.Need-mul-size
+mul-size c = omega (arith, sound (c .before .before .before) .small)
+
+mul-size-2 : tie.Need-mul-size-2
+mul-size-2 c = omega (arith, bits-few (c .before .before .before .before))
+
+mul-result : tie.Need-mul-result
+mul-result c =
+    omega (arith, bytes-few (c .before .before .before .before .before))
+
+cast-result : tie.Need-cast-result
+cast-result c = omega (arith, bytes-few (c .before .before .before .before .before))
+
+returns : tie.Need-returns
+unfolding writeSize
+returns c = rw (eq-eqb _ 10 (c .before .before .before .if1 .taken))
+
+cell-count-requires : tie.Need-cell-count-requires
+cell-count-requires c κs = (grid-set (sound (c .before .before)) (c .if1 .left), c .before .before .pre .1)
+
+mul-result-2 : tie.Need-mul-result-2
+mul-result-2 c = omega (arith, sound (c .before .before .before .before) .deep)
+
+mul-result-3 : tie.Need-mul-result-3
+mul-result-3 c = omega (arith, mul-le-mul (c .before .cell-count .ensures .1) (eights (c .before .before .before .before)))
+
+cast-result-2 : tie.Need-cast-result-2
+cast-result-2 c = omega (arith, mul-le-mul (c .before .cell-count .ensures .1) (eights (c .before .before .before .before)))
+
+returns-2 : tie.Need-returns-2
+unfolding writeSize
+returns-2 c = rw (ne-eqb _ 10 (c .before .before .if1 .left)) (ap (λ (k : ℕ). k * (c .before .before .before .before .args .set .depth * 8)) (c .before .cell-count .ensures .0))
+
+pub write-size-spec : {M : Type 1} → statement M
+write-size-spec =
+    tie.close
+    (tie.spec
+    mul-size
+    mul-size-2
+    mul-result
+    cast-result
+    returns
+    cell-count-requires
+    mul-result-2
+    mul-result-3
+    cast-result-2
+    returns-2)

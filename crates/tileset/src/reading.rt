@@ -1,0 +1,198 @@
+// Reading a set's tiles from bytes.
+use crate::Logical;
+use crate::Set;
+use crate::SetAnswer;
+use crate::numbers::first_cell;
+use crate::numbers::row_cells;
+use crate::sets::set_says;
+use mode::Mode;
+ghost use mathlib.Core.Path.{_≡_};
+ghost use lib.Seq.{sets};
+ghost use Rattle.words.specs.Answers.{overwrite};
+ghost use Rattle.words.specs.Loops.{each};
+ghost use Rattle.tileset.specs.Sets.{setSays};
+ghost use Rattle.tileset.specs.Numbers.{Grid};
+ghost use Rattle.tileset.specs.Reading.{wholeTiles, readCount, readableSays, readSays, readPixels, cellsIn, rowOf, Reads, ReadsAll, ReadsCells, ReadsRows, ReadsRow};
+
+// Whether a mode's sets of such tiles can be read.
+fn readable_says(mode: u32, depth: u32, width: u32, height: u32) -> u32
+    ensures { λ r. ⌜ r ≡ readableSays mode depth width height ⌝ }
+{
+    if mode == 10 {
+        return 2;
+    }
+    set_says(mode, depth, width, height)
+}
+
+// How many tiles come before the first incomplete one of so many cells.
+fn whole_tiles(row: usize, across: usize, down: usize, cells: usize) -> usize
+    requires { ⌜ Grid row across down ⌝ }
+    ensures { λ r. ⌜ r ≡ wholeTiles row across down cells ⌝ }
+{
+    let strip = down * row;
+    let above = (down - 1) * row;
+    let whole = cells / strip * (row / across);
+    let rest = cells % strip;
+    if rest < above {
+        return whole;
+    }
+    whole + (rest - above) / across
+}
+
+// How many tiles so many bytes hold.
+fn read_count(mode: u32, depth: u32, width: u32, height: u32, len: usize) -> usize
+    requires { ⌜ (setSays mode depth width height ≡ 0) × (mode ≡ 10 → ⊥) ⌝ }
+    ensures { λ r. ⌜ r ≡ readCount mode depth width height len ⌝ }
+{
+    let row = row_cells(mode) as usize;
+    let across = (width / 8) as usize;
+    let down = (height / 8) as usize;
+    let size = (depth * 8) as usize;
+    whole_tiles(row, across, down, len / size)
+}
+
+fn read_says(mode: u32, depth: u32, width: u32, height: u32, len: usize, space: usize) -> u32
+    ensures { λ r. ⌜ r ≡ readSays mode depth width height len space ⌝ }
+{
+    let refusal = readable_says(mode, depth, width, height);
+    if refusal != 0 {
+        return refusal;
+    }
+    let size = (depth * 8) as usize;
+    if len % size != 0 {
+        return 7;
+    }
+    let count = read_count(mode, depth, width, height, len);
+    let n = (width * height) as usize;
+    if space / n < count {
+        return 11;
+    }
+    if 65535 < count {
+        return 12;
+    }
+    0
+}
+
+// The pixels of a tile's cells, cell after cell.
+fn unpack_cells(
+    mode: u32,
+    depth: u32,
+    width: u32,
+    height: u32,
+    bytes: &[u8],
+    n: u32,
+    out: &mut [u8],
+)
+    requires { ⌜ ReadsCells mode depth width height (now bytes) n (now out) ⌝ }
+    ensures { λ _. ⌜ now (out .exit) ≡ overwrite (now (out .entry)) (cellsIn mode depth width height (now (bytes .entry)) n) ⌝ }
+{
+    let p = tile::packing_of(Mode(mode), depth, 8, 8);
+    let size = (depth * 8) as usize;
+    let row = row_cells(mode);
+    let first = first_cell(mode, width, height, Logical(n));
+    let across = width / 8;
+    let count = across * (height / 8);
+    let mut i: u32 = 0;
+    while i < count {
+        let cell = (first.0 + i / across * row + i % across) as usize;
+        tile::put_pixels(p, bytes, cell * size, out, (i as usize) * 64);
+        i += 1;
+    }
+}
+
+// Row y of a tile, out of its cells' pixels.
+fn put_row(cells: &[u8], width: usize, y: usize, out: &mut [u8], at: usize)
+    requires { ⌜ ReadsRow width y (now cells) (now out) at ⌝ }
+    ensures { λ _. ⌜ now (out .exit) ≡ sets (now (out .entry)) at (rowOf width (now (cells .entry)) y) ⌝ }
+{
+    let above = y / 8 * (width / 8);
+    let down = y % 8 * 8;
+    let mut x = 0;
+    while x < width {
+        out[at + x] = cells[(above + x / 8) * 64 + down + x % 8];
+        x += 1;
+    }
+}
+
+// The rows of a tile, one after the other.
+fn put_rows(cells: &[u8], width: usize, height: usize, out: &mut [u8], at: usize)
+    requires { ⌜ ReadsRows width height (now cells) (now out) at ⌝ }
+    ensures { λ _. ⌜ now (out .exit) ≡ sets (now (out .entry)) at (each height (rowOf width (now (cells .entry)))) ⌝ }
+{
+    let mut y = 0;
+    while y < height {
+        put_row(cells, width, y, out, at + y * width);
+        y += 1;
+    }
+}
+
+// The tiles, one after the other.
+fn put_read(
+    mode: u32,
+    depth: u32,
+    width: u32,
+    height: u32,
+    bytes: &[u8],
+    count: u32,
+    store: &mut [u8],
+)
+    requires { ⌜ ReadsAll mode depth width height (now bytes) (now store) count ⌝ }
+    ensures { λ _. ⌜ now (store .exit) ≡ overwrite (now (store .entry)) (readPixels mode depth width height (now (bytes .entry))) ⌝ }
+{
+    let mut cells = [0u8; 4096];
+    let w = width as usize;
+    let h = height as usize;
+    let mut n: u32 = 0;
+    while n < count {
+        unpack_cells(mode, depth, width, height, bytes, n, &mut cells);
+        put_rows(&cells, w, h, store, (n as usize) * (w * h));
+        n += 1;
+    }
+}
+
+// Reads a set's tiles from bytes.
+pub fn read(
+    mode: u32,
+    depth: u32,
+    width: u32,
+    height: u32,
+    flips: bool,
+    bytes: &[u8],
+    store: &mut [u8],
+) -> SetAnswer
+    ensures { λ r. ⌜ Reads mode depth width height flips (now (bytes .entry)) (now (store .entry)) r (now (store .exit)) ⌝ }
+{
+    let refusal = read_says(mode, depth, width, height, bytes.len(), store.len());
+    if refusal != 0 {
+        return SetAnswer {
+            refusal,
+            set: Set {
+                mode: 0,
+                depth: 0,
+                width: 0,
+                height: 0,
+                flips: false,
+                discarding: false,
+                limit: 0,
+                stored: 0,
+                discarded: 0,
+            },
+        };
+    }
+    let count = read_count(mode, depth, width, height, bytes.len()) as u32;
+    put_read(mode, depth, width, height, bytes, count, store);
+    SetAnswer {
+        refusal: 0,
+        set: Set {
+            mode,
+            depth,
+            width,
+            height,
+            flips,
+            discarding: true,
+            limit: 0,
+            stored: count,
+            discarded: 0,
+        },
+    }
+}

@@ -1,0 +1,183 @@
+// Writing a set's tiles as bytes.
+use crate::Logical;
+use crate::Native;
+use crate::Set;
+use crate::numbers::row_cells;
+use crate::numbers::tile_of;
+use crate::sets::held_says;
+use mode::Mode;
+use words::Written;
+ghost use mathlib.Core.Path.{_≡_};
+ghost use Prim.Native.Nat.{_/_, _≤_};
+ghost use lib.ListN.{length};
+ghost use lib.Seq.{sets};
+ghost use Rattle.words.specs.Answers.{overwrite, Wrote};
+ghost use Rattle.words.specs.Loops.{each, some};
+ghost use Rattle.tile.specs.Tile.{tooLarge};
+ghost use Rattle.tileset.specs.Sets.{setSays};
+ghost use Rattle.tileset.specs.Numbers.{rowCells, Grid};
+ghost use Rattle.tileset.specs.Writing.{paddedCells, cellCount, cornerOf, block, cellBytes, cellsOf, spriteBytes, setBytes, writeSize, writeSays, Writes, PutsCell, HasCorner, HasBlock};
+
+// Whole rows of cells for so many tiles.
+fn padded_cells(mode: u32, width: u32, height: u32, stored: u32) -> u32
+    requires { ⌜ Grid (rowCells mode) (width / 8) (height / 8) × (stored ≤ 65535) ⌝ }
+    ensures { λ r. ⌜ (r ≡ paddedCells (rowCells mode) (width / 8) (height / 8) stored) × (r ≤ 8390400) ⌝ }
+{
+    let row = row_cells(mode);
+    let tiles = row / (width / 8);
+    (stored + (tiles - 1)) / tiles * (height / 8) * row
+}
+
+// How many cells a set writes.
+fn cell_count(mode: u32, width: u32, height: u32, stored: u32) -> u32
+    requires { ⌜ Grid (rowCells mode) (width / 8) (height / 8) × (stored ≤ 65535) ⌝ }
+    ensures { λ r. ⌜ (r ≡ cellCount mode width height stored) × (r ≤ 8390400) ⌝ }
+{
+    if width != 8 {
+        return padded_cells(mode, width, height, stored);
+    }
+    if height != 8 {
+        return padded_cells(mode, width, height, stored);
+    }
+    stored
+}
+
+// Where the pixels of a cell of a tile start.
+fn corner(set: Set, c: u32, tile: Logical) -> usize
+    requires { ⌜ HasCorner set c (tile .0) ⌝ }
+    ensures { λ r. ⌜ r ≡ cornerOf (set .mode) (set .width) (set .height) c ⌝ }
+{
+    let row = row_cells(set.mode);
+    let width = set.width;
+    let height = set.height;
+    let down = c / row % (height / 8) * 8 * width;
+    let across = c % row % (width / 8) * 8;
+    (tile.0 * (width * height) + down + across) as usize
+}
+
+// The block of eight by eight pixels that starts at a corner, of a store with rows of so many pixels.
+fn take_block(store: &[u8], corner: usize, width: usize, out: &mut [u8])
+    requires { ⌜ HasBlock (now store) corner width (now out) ⌝ }
+    ensures { λ _. ⌜ now (out .exit) ≡ block (now (store .entry)) corner width ⌝ }
+{
+    let mut i = 0;
+    while i < 64 {
+        out[i] = store[corner + i / 8 * width + i % 8];
+        i += 1;
+    }
+}
+
+// The bytes of a cell, from place at of out on; a cell after the last tile is blank.
+fn put_cell(set: Set, store: &[u8], c: u32, out: &mut [u8], at: usize)
+    requires { ⌜ PutsCell set (now store) (now out) at ⌝ }
+    ensures { λ _. ⌜ now (out .exit) ≡ sets (now (out .entry)) at (cellBytes set (now (store .entry)) c) ⌝ }
+{
+    let p = tile::packing_of(Mode(set.mode), set.depth, 8, 8);
+    let mut cell = [0u8; 64];
+    let tile = tile_of(set.mode, set.width, set.height, Native(c));
+    if set.stored <= tile.0 {
+        tile::put_tile(p, &cell, 0, out, at);
+        return;
+    }
+    take_block(store, corner(set, c, tile), set.width as usize, &mut cell);
+    tile::put_tile(p, &cell, 0, out, at);
+}
+
+// The cells of a set, one after the other.
+fn put_cells(set: Set, store: &[u8], out: &mut [u8])
+    requires { ⌜ Writes set (now store) (now out) × (set .mode ≡ 10 → ⊥) ⌝ }
+    ensures { λ _. ⌜ now (out .exit) ≡ overwrite (now (out .entry)) (each (cellsOf set) (cellBytes set (now (store .entry)))) ⌝ }
+{
+    let count = cell_count(set.mode, set.width, set.height, set.stored);
+    let size = (set.depth * 8) as usize;
+    let mut c: u32 = 0;
+    while c < count {
+        put_cell(set, store, c, out, (c as usize) * size);
+        c += 1;
+    }
+}
+
+// Sprites, tile by tile.
+fn put_sprites(set: Set, store: &[u8], out: &mut [u8])
+    requires { ⌜ Writes set (now store) (now out) × (set .mode ≡ 10) ⌝ }
+    ensures { λ _. ⌜ now (out .exit) ≡ overwrite (now (out .entry)) (each (set .stored) (spriteBytes set (now (store .entry)))) ⌝ }
+{
+    let p = tile::packing_of(Mode(set.mode), set.depth, set.width, set.height);
+    let n = (set.width * set.height) as usize;
+    let size = tile::byte_count(p);
+    let mut i: u32 = 0;
+    while i < set.stored {
+        let k = i as usize;
+        tile::put_tile(p, store, k * n, out, k * size);
+        i += 1;
+    }
+}
+
+// Whether one of the first count pixels is 2^depth or more.
+fn some_too_large(depth: u32, store: &[u8], count: usize) -> bool
+    requires { ⌜ (depth ≤ 8) × (count ≤ length (now store)) ⌝ }
+    ensures { λ r. ⌜ r ≡ some count (tooLarge depth (now (store .entry))) ⌝ }
+{
+    let limit = words::up(1, depth);
+    let mut i = 0;
+    while i < count {
+        if limit <= words::wide(store[i]) {
+            return true;
+        }
+        i += 1;
+    }
+    false
+}
+
+// How many bytes a set has.
+fn write_size(set: Set) -> usize
+    requires { ⌜ (setSays (set .mode) (set .depth) (set .width) (set .height) ≡ 0) × (set .stored ≤ 65535) ⌝ }
+    ensures { λ r. ⌜ r ≡ writeSize set ⌝ }
+{
+    if set.mode == 10 {
+        let size = set.width * set.height * set.depth / 8;
+        return (set.stored * size) as usize;
+    }
+    let count = cell_count(set.mode, set.width, set.height, set.stored);
+    (count * (set.depth * 8)) as usize
+}
+
+fn write_says(set: Set, store: &[u8], space: usize) -> u32
+    ensures { λ r. ⌜ r ≡ writeSays set (now (store .entry)) space ⌝ }
+{
+    let refusal = held_says(set, store.len());
+    if refusal != 0 {
+        return refusal;
+    }
+    let count = (set.stored * (set.width * set.height)) as usize;
+    if some_too_large(set.depth, store, count) {
+        return 8;
+    }
+    if space < write_size(set) {
+        return 11;
+    }
+    0
+}
+
+// Writes a set's tiles as bytes.
+pub fn write(set: Set, store: &[u8], out: &mut [u8]) -> Written
+    ensures { λ r. ⌜ Wrote (writeSays set (now (store .entry)) (length (now (out .entry)))) (setBytes set (now (store .entry))) (now (out .entry)) r (now (out .exit)) ⌝ }
+{
+    let refusal = write_says(set, store, out.len());
+    if refusal != 0 {
+        return words::refused(refusal);
+    }
+    let size = write_size(set);
+    if set.mode == 10 {
+        put_sprites(set, store, out);
+        return Written {
+            refusal: 0,
+            written: size,
+        };
+    }
+    put_cells(set, store, out);
+    Written {
+        refusal: 0,
+        written: size,
+    }
+}
