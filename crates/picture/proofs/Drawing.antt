@@ -84,7 +84,7 @@ module _ {m d : ℕ} {p : Packing} (q : p ≡ packingOf m d 8 8) (n : Native m d
   pub unpacks-at : (bytes out : List ℕ) (from : ℕ) → from + d * 8 ≤ length bytes → length out ≡ 64 → Unpacks p bytes from out 0
   unpacks-at bytes out from inside room =
       subst (λ (k : Packing). Unpacks k bytes from out 0) (sym q)
-      (record { sound = fitting n .sound; inside = omega (arith, fitting n .bytes); room = omega (arith, fitting n .pixels) })
+      (record { sound = fitting n .sound; inside = omega (arith, fitting n .bytes); space = omega (arith, fitting n .pixels) })
 
   tile-is : (bytes : List ℕ) (from : ℕ) → unpackedIn p (take (byteCount p) (drop from bytes)) ≡ unpacked m d 8 8 (take (d * 8) (drop from bytes))
   tile-is bytes from =

@@ -22,7 +22,7 @@ use Rattle.picture.specs.Inner.{askedSays}
 use Rattle.picture.specs.declared.Settings.{Settings}
 use Rattle.picture.specs.declared.Picture.{Picture}
 use Rattle.picture.proofs.Checks.{convert-12, convert-0, convert-passed}
-use Rattle.tileset.proofs.Keeping.{kept-apart, none-discarded}
+use Rattle.tileset.proofs.Keeping.{kept-apart, none-discarded as off-none}
 use Rattle.picture.proofs.Converted.{found-taken, is-found, stored-need, stored-discarded}
 use Rattle.picture.proofs.Room.{convert-full}
 use Rattle.picture.proofs.ByAdding.{tiles-accepted, tiles-stored, tiles-count, tiles-sum, tiles-cut}
@@ -85,7 +85,7 @@ module _ (z : Settings) (pixels : List ℕ) where
   pub none-discarded : z .discard ≡ false → discardedOf z pixels ≡ 0
   unfolding discardedOf
   none-discarded off =
-      ap (λ (b : Bool). discarded b (z .flip) 8 8 (pictureTiles z pixels)) off ∙ none-discarded (z .flip) 8 8 (pictureTiles z pixels)
+      ap (λ (b : Bool). discarded b (z .flip) 8 8 (pictureTiles z pixels)) off ∙ off-none (z .flip) 8 8 (pictureTiles z pixels)
 
   pub all-stored : z .discard ≡ false → length (storedOf z pixels) ≡ places z
   all-stored off = omega (arith, all-counted, none-discarded off)
