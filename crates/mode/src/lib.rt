@@ -92,24 +92,25 @@ impl Mode {
         requires { ⌜ self .0 < 16 ⌝ }
         ensures { λ r. ⌜ r ≡ numbers (row (self .0)) ⌝ }
     {
+        let rows = ROWS;
         let number = self.0;
         match number {
-            console::SNES => ROWS[0],
-            console::SNES_MODE7 => ROWS[1],
-            console::GB => ROWS[2],
-            console::GBC => ROWS[3],
-            console::GBA => ROWS[4],
-            console::GBA_AFFINE => ROWS[5],
-            console::MD => ROWS[6],
-            console::SMS => ROWS[7],
-            console::GG => ROWS[8],
-            console::PCE => ROWS[9],
-            console::PCE_SPRITE => ROWS[10],
-            console::NGP => ROWS[11],
-            console::NGPC => ROWS[12],
-            console::WS => ROWS[13],
-            console::WSC => ROWS[14],
-            _ => ROWS[15],
+            console::SNES => rows[0],
+            console::SNES_MODE7 => rows[1],
+            console::GB => rows[2],
+            console::GBC => rows[3],
+            console::GBA => rows[4],
+            console::GBA_AFFINE => rows[5],
+            console::MD => rows[6],
+            console::SMS => rows[7],
+            console::GG => rows[8],
+            console::PCE => rows[9],
+            console::PCE_SPRITE => rows[10],
+            console::NGP => rows[11],
+            console::NGPC => rows[12],
+            console::WS => rows[13],
+            console::WSC => rows[14],
+            _ => rows[15],
         }
     }
 
