@@ -1,67 +1,27 @@
 -- The rules of the tables that the code of entries leans on, and what an entry that passes the checks is known to be.
 -- Assumes nothing.
-use mathlib.Core.Path.{_≡_, refl, ap}
+use mathlib.Core.Path.{_≡_, refl, sym, ap, _∙_}
 use mathlib.Core.Bool.{Bool, true, false, not, cond, _&&_}
+use mathlib.Core.List.{[], _∷_, _++_}
 use Prim.Native.Nat.{ℕ, zero, suc, _^_, _<_, _≤_}
 use native.Mathlib.Nat.{suc-ne-zero, lt-of-lt-of-le}
 use native.Mathlib.Omega.{arith}
 use lib.Dec.{ltb, leb, eqb, leb→le}
 use lib.Pow.{pow-mono}
 use borrow.Author.Tests.{ltb-true, ltb-false, eqb-false, lt-ltb}
+use Rattle.words.specs.Answers.{_when_, firstApplying}
 use Rattle.words.specs.Bytes.{bit}
 use Rattle.words.specs.Fields.{bitsOf}
-use Rattle.words.proofs.Answers.{all-passed, not-given}
+use Rattle.words.proofs.Answers.{all-passed, not-given, before-space, no-space, space-left}
 use Rattle.words.proofs.Fields.{join-lt}
 use Rattle.words.proofs.Loops.{all-at}
+use Rattle.words.proofs.Order.{first-append}
 use Rattle.mode.specs.Table.{row, gbc, pce-sprite}
-use Rattle.mode.proofs.ByMode.{by-mode}
+use Rattle.mode.proofs.ByMode.{every-mode}
 use Rattle.mapentry.specs.Entry.{layout, valuesOf, entryWord, misfitOf, misfitSays, entryChecks, entrySays, entryAnswer, blank, entered, indexSize, IsEntry, withoutTile}
 use Rattle.mapentry.specs.declared.Mapentry.{Mapentry}
 use Rattle.mapentry.specs.declared.Misfit.{Misfit}
 use Rattle.mapentry.specs.declared.Misfit.the-variants.{Tile, Palette, Flip, Priority, Nothing}
-
--- the sizes that no arm names
-pub two-bytes : (m : ℕ) → m < 16 → (m ≡ 1 → ⊥) → (m ≡ 2 → ⊥) → (m ≡ 5 → ⊥) → (m ≡ 10 → ⊥) → 2 ≡ row m .entry
-unfolding row
-two-bytes =
-    by-mode (λ (m : ℕ). (m ≡ 1 → ⊥) → (m ≡ 2 → ⊥) → (m ≡ 5 → ⊥) → (m ≡ 10 → ⊥) → 2 ≡ row m .entry)
-    (λ a b c d. refl)
-    (λ a b c d. absurd (a refl))
-    (λ a b c d. absurd (b refl))
-    (λ a b c d. refl)
-    (λ a b c d. refl)
-    (λ a b c d. absurd (c refl))
-    (λ a b c d. refl)
-    (λ a b c d. refl)
-    (λ a b c d. refl)
-    (λ a b c d. refl)
-    (λ a b c d. absurd (d refl))
-    (λ a b c d. refl)
-    (λ a b c d. refl)
-    (λ a b c d. refl)
-    (λ a b c d. refl)
-    (λ a b c d. refl)
-
-pub two-index-bytes : (m : ℕ) → m < 16 → (m ≡ 1 → ⊥) → (m ≡ 2 → ⊥) → (m ≡ 3 → ⊥) → (m ≡ 5 → ⊥) → (m ≡ 10 → ⊥) → 2 ≡ indexSize m
-unfolding row
-two-index-bytes =
-    by-mode (λ (m : ℕ). (m ≡ 1 → ⊥) → (m ≡ 2 → ⊥) → (m ≡ 3 → ⊥) → (m ≡ 5 → ⊥) → (m ≡ 10 → ⊥) → 2 ≡ indexSize m)
-    (λ a b c d e. refl)
-    (λ a b c d e. absurd (a refl))
-    (λ a b c d e. absurd (b refl))
-    (λ a b c d e. absurd (c refl))
-    (λ a b c d e. refl)
-    (λ a b c d e. absurd (d refl))
-    (λ a b c d e. refl)
-    (λ a b c d e. refl)
-    (λ a b c d e. refl)
-    (λ a b c d e. refl)
-    (λ a b c d e. absurd (e refl))
-    (λ a b c d e. refl)
-    (λ a b c d e. refl)
-    (λ a b c d e. refl)
-    (λ a b c d e. refl)
-    (λ a b c d e. refl)
 
 -- few bits, and one or two bytes
 pub record Small (m : ℕ) : Type 0 where
@@ -82,26 +42,9 @@ small m h =
       entry = leb→le (row m .entry) 2 (all-at 16 (λ k. leb (row k .entry) 2) tt m h);
     }
 
-pub some-byte : (m : ℕ) → m < 16 → (m ≡ 10 → ⊥) → 0 < row m .entry
+pub some-byte : (m : ℕ) → m < 16 → (m ≡ pce-sprite → ⊥) → 0 < row m .entry
 unfolding row
-some-byte =
-    by-mode (λ (m : ℕ). (m ≡ 10 → ⊥) → 0 < row m .entry)
-    (λ n. omega arith)
-    (λ n. omega arith)
-    (λ n. omega arith)
-    (λ n. omega arith)
-    (λ n. omega arith)
-    (λ n. omega arith)
-    (λ n. omega arith)
-    (λ n. omega arith)
-    (λ n. omega arith)
-    (λ n. omega arith)
-    (λ n. absurd (n refl))
-    (λ n. omega arith)
-    (λ n. omega arith)
-    (λ n. omega arith)
-    (λ n. omega arith)
-    (λ n. omega arith)
+some-byte = every-mode (λ (m : ℕ). (m ≡ pce-sprite → ⊥) → 0 < row m .entry) (omega arith)
 
 one-or-two : (b : Bool) → (0 < cond b 2 1) × (cond b 2 1 ≤ 2)
 one-or-two true = omega arith
@@ -111,6 +54,19 @@ pub index-small : (m : ℕ) → (0 < indexSize m) × (indexSize m ≤ 2)
 index-small m = one-or-two (ltb 8 (row m .tile) && not (eqb m gbc))
 
 -- ---- an entry that passes the checks
+
+-- what is left of the tests once those of the tile, of the palette, of h and of v have passed
+abbrev pub afterV : ℕ → Mapentry → Misfit
+afterV m e = cond (not (ltb (bit (e .priority)) (2 ^ row m .priority))) Priority Nothing
+
+abbrev pub afterH : ℕ → Mapentry → Misfit
+afterH m e = cond (not (ltb (bit (e .«flip_v»)) (2 ^ row m .flips))) Flip (afterV m e)
+
+abbrev pub afterPalette : ℕ → Mapentry → Misfit
+afterPalette m e = cond (not (ltb (bit (e .«flip_h»)) (2 ^ row m .flips))) Flip (afterH m e)
+
+abbrev pub afterTile : ℕ → Mapentry → Misfit
+afterTile m e = cond (not (ltb (e .palette) (2 ^ row m .palette))) Palette (afterPalette m e)
 
 no-misfit : (f : Misfit) → misfitSays f ≡ 0 → f ≡ Nothing
 no-misfit Tile e = absurd (suc-ne-zero 9 e)
@@ -128,6 +84,21 @@ is-entry m e z =
       map = eqb-false m pce-sprite (not-given 1 (eqb m pce-sprite) (passed 1));
       fits = no-misfit (misfitOf m e) (passed 2);
     }
+
+-- checks that end with the space: refused before, for the space, and not at all
+module _ (m : ℕ) (e : Mapentry) (space size : ℕ) where
+  ends : firstApplying (entryChecks m e ++ 11 when ltb space size ∷ []) ≡ firstApplying (entrySays m e ∷ 11 when ltb space size ∷ [])
+  unfolding entrySays
+  ends = first-append (entryChecks m e) (11 when ltb space size ∷ [])
+
+  pub entry-first : (n : ℕ) → n ≡ entrySays m e → (n ≡ 0 → ⊥) → n ≡ firstApplying (entryChecks m e ++ 11 when ltb space size ∷ [])
+  entry-first n is given = before-space n space size is given ∙ sym ends
+
+  pub entry-no-space : entrySays m e ≡ 0 → space < size → 11 ≡ firstApplying (entryChecks m e ++ 11 when ltb space size ∷ [])
+  entry-no-space z short = no-space (entrySays m e) space size z short ∙ sym ends
+
+  pub entry-space : entrySays m e ≡ 0 → size ≤ space → firstApplying (entryChecks m e ++ 11 when ltb space size ∷ []) ≡ 0
+  entry-space z fits = ends ∙ space-left (entrySays m e) space size z fits
 
 -- each field is below 2 to its bits
 pub record Fitting (m : ℕ) (e : Mapentry) : Type 0 where
@@ -210,10 +181,6 @@ word-small m h e = lt-of-lt-of-le (join-lt (layout m) (valuesOf e)) (pow-mono {j
 -- a reading is refused, with all else 0, or has the entry's fields
 pub refused-entry : (n : ℕ) {k : ℕ} (e : Mapentry) → suc n ≡ k → entryAnswer (suc n) blank ≡ entered k e
 refused-entry n e p = ap (λ (i : ℕ). entered i e) p
-
-pub same-entry : (n : ℕ) (e f : Mapentry) → (n ≡ 0 → e ≡ f) → entered n e ≡ entered n f
-same-entry zero e f h = ap (λ (x : Mapentry). entryAnswer 0 x) (h refl)
-same-entry (suc n) e f h = refl
 
 pub done-entry : {k : ℕ} (r e : Mapentry) → k ≡ 0 → r ≡ e → entryAnswer 0 r ≡ entered k e
 done-entry {k = zero} r e z p = ap (λ (x : Mapentry). entryAnswer 0 x) p

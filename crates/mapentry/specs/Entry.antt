@@ -3,7 +3,7 @@
 use Prim.Native.Nat.{ℕ, _/_, _^_, _<_}
 use mathlib.Core.Path.{_≡_}
 use mathlib.Core.Bool.{Bool, false, not, cond, _&&_}
-use mathlib.Core.List.{List, [], _∷_}
+use mathlib.Core.List.{List, [], _∷_, _++_}
 use lib.Dec.{ltb, eqb}
 use lib.ListN.{getD}
 use Rattle.words.specs.Answers.{_when_, firstApplying, unless}
@@ -110,8 +110,11 @@ pub record IsEntry (m : ℕ) (e : Mapentry) : Type 0 where
   pub map : m ≡ pce-sprite → ⊥
   pub fits : misfitOf m e ≡ Nothing
 
+abbrev pub packChecks : ℕ → Mapentry → ℕ → List ℕ
+packChecks m e space = entryChecks m e ++ 11 when ltb space (row m .entry) ∷ []
+
 unfoldable pub packSays : ℕ → Mapentry → ℕ → ℕ
-packSays m e space = firstApplying (entrySays m e ∷ 11 when ltb space (row m .entry) ∷ [])
+packSays m e space = firstApplying (packChecks m e space)
 
 abbrev pub readChecks : ℕ → ℕ → List ℕ
 readChecks m len = 1 when ltb 15 m ∷ 2 when eqb m pce-sprite ∷ 7 when not (eqb len (row m .entry)) ∷ []
@@ -137,8 +140,11 @@ indexSize m = cond (ltb 8 (row m .tile) && not (eqb m gbc)) 2 1
 abbrev pub indexBytes : ℕ → Mapentry → List ℕ
 indexBytes m e = bytesOf (indexSize m) false (e .tile)
 
+abbrev pub indexChecks : ℕ → Mapentry → ℕ → List ℕ
+indexChecks m e space = entryChecks m e ++ 11 when ltb space (indexSize m) ∷ []
+
 unfoldable pub indexSays : ℕ → Mapentry → ℕ → ℕ
-indexSays m e space = firstApplying (entrySays m e ∷ 11 when ltb space (indexSize m) ∷ [])
+indexSays m e space = firstApplying (indexChecks m e space)
 
 -- "`get_attribute` keeps the non-tile bits of the second byte (md: the first; gbc: tile bit 8 too), 0 where an entry has one byte": what is left
 -- above the low byte of the word, of an entry without its tile index.

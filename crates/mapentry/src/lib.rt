@@ -1,7 +1,9 @@
 // Map entries: the words that say which tile is drawn, with which palette and how.
 use mode::Mode;
+use mode::console;
 use words::Number;
 use words::Written;
+use words::refusal;
 ghost use mathlib.Core.Path.{_≡_};
 ghost use Prim.Native.Nat.{_+_, _<_, _≤_};
 ghost use lib.Dec.{T};
@@ -10,8 +12,8 @@ ghost use lib.Seq.{sets};
 ghost use Rattle.words.specs.Answers.{numbered, Wrote};
 ghost use Rattle.words.specs.Bytes.{bytesOf};
 ghost use Rattle.mode.specs.Table.{row};
-ghost use Rattle.mapentry.specs.Entry.{misfitOf, misfitSays, entrySays, entryWord, entryBytes, packSays, entryIn, entryOf, readSays, entered, entryAnswer, blank, IsEntry, mostFirst, withoutTile, indexSize, indexSays, indexBytes, attributeOf};
-ghost use Rattle.mapentry.specs.Places.{at, placesOf, Near, readAt, ReadEntry};
+ghost use Rattle.mapentry.specs.Entry.{misfitOf, misfitSays, entrySays, entryWord, entryBytes, packSays, entryIn, entryOf, readSays, entered, entryAnswer, blank, IsEntry, layout, mostFirst, withoutTile, indexSize, indexSays, indexBytes, attributeOf};
+ghost use Rattle.mapentry.specs.Inner.{at, placesIn, Near, sizeSays};
 
 // "An entry is tile index, palette index (32 bits each), flip h, flip v, priority."
 pub struct Mapentry {
@@ -47,10 +49,10 @@ pub fn misfit_says(f: Misfit) -> u32
     ensures { λ r. ⌜ r ≡ misfitSays f ⌝ }
 {
     match f {
-        Misfit::Tile => 10,
-        Misfit::Palette => 10,
-        Misfit::Flip => 10,
-        Misfit::Priority => 10,
+        Misfit::Tile => refusal::FIELD,
+        Misfit::Palette => refusal::FIELD,
+        Misfit::Flip => refusal::FIELD,
+        Misfit::Priority => refusal::FIELD,
         Misfit::Nothing => 0,
     }
 }
@@ -60,10 +62,10 @@ pub fn entry_says(mode: u32, e: Mapentry) -> u32
     ensures { λ r. ⌜ r ≡ entrySays mode e ⌝ }
 {
     if 15 < mode {
-        return 1;
+        return refusal::MODE;
     }
-    if mode == 10 {
-        return 2;
+    if mode == console::PCE_SPRITE {
+        return refusal::PCE_SPRITE;
     }
     misfit_says(first_misfit(Mode(mode), e))
 }
@@ -96,51 +98,48 @@ fn placed(low: u32, high: u32, palette: u32, bits: u32, h: u32, v: u32, priority
 
 pub fn places_of(m: Mode) -> Places
     requires { ⌜ m .0 < 16 ⌝ }
-    ensures { λ r. ⌜ (r ≡ placesOf (m .0)) × Near r ⌝ }
+    ensures { λ r. ⌜ (r ≡ placesIn (layout (m .0))) × Near r ⌝ }
 {
     let number = m.0;
     match number {
-        0 => placed(10, 16, 10, 3, 14, 15, 13), // snes
-        1 => placed(8, 16, 16, 0, 16, 16, 16), // snes_mode7
-        2 => placed(8, 16, 16, 0, 16, 16, 16), // gb
-        3 => placed(8, 11, 8, 3, 13, 14, 15), // gbc
-        4 => placed(10, 16, 12, 4, 10, 11, 16), // gba
-        5 => placed(8, 16, 16, 0, 16, 16, 16), // gba_affine
-        6 => placed(11, 16, 13, 2, 11, 12, 15), // md
-        7 => placed(9, 16, 11, 1, 9, 10, 12), // sms
-        8 => placed(9, 16, 11, 1, 9, 10, 12), // gg
-        9 => placed(12, 16, 12, 4, 16, 16, 16), // pce
-        10 => placed(0, 16, 16, 0, 16, 16, 16), // pce_sprite
-        11 => placed(9, 16, 13, 1, 15, 14, 16), // ngp
-        12 => placed(9, 16, 9, 4, 15, 14, 16), // ngpc
-        13 => placed(9, 13, 9, 4, 14, 15, 16), // ws
-        14 => placed(9, 13, 9, 4, 14, 15, 16), // wsc
-        _ => placed(9, 13, 9, 4, 14, 15, 16), // wsc_packed
+        console::SNES => placed(10, 16, 10, 3, 14, 15, 13),
+        console::SNES_MODE7 => placed(8, 16, 16, 0, 16, 16, 16),
+        console::GB => placed(8, 16, 16, 0, 16, 16, 16),
+        console::GBC => placed(8, 11, 8, 3, 13, 14, 15),
+        console::GBA => placed(10, 16, 12, 4, 10, 11, 16),
+        console::GBA_AFFINE => placed(8, 16, 16, 0, 16, 16, 16),
+        console::MD => placed(11, 16, 13, 2, 11, 12, 15),
+        console::SMS => placed(9, 16, 11, 1, 9, 10, 12),
+        console::GG => placed(9, 16, 11, 1, 9, 10, 12),
+        console::PCE => placed(12, 16, 12, 4, 16, 16, 16),
+        console::PCE_SPRITE => placed(0, 16, 16, 0, 16, 16, 16),
+        console::NGP => placed(9, 16, 13, 1, 15, 14, 16),
+        console::NGPC => placed(9, 16, 9, 4, 15, 14, 16),
+        console::WS => placed(9, 13, 9, 4, 14, 15, 16),
+        console::WSC => placed(9, 13, 9, 4, 14, 15, 16),
+        _ => placed(9, 13, 9, 4, 14, 15, 16),
     }
 }
 
-// The bits that the mode has for each field are told by its places.
+// The bits that the mode has for each field are its row's.
 pub fn first_misfit(m: Mode, e: Mapentry) -> Misfit
     requires { ⌜ m .0 < 16 ⌝ }
     ensures { λ r. ⌜ r ≡ misfitOf (m .0) e ⌝ }
 {
-    let p = places_of(m);
-    let apart = words::flag(p.high < 16);
-    if !words::holds(p.low + apart, e.tile) {
+    if !words::holds(m.tile_bits(), e.tile) {
         return Misfit::Tile;
     }
-    if !words::holds(p.bits, e.palette) {
+    if !words::holds(m.palette_bits(), e.palette) {
         return Misfit::Palette;
     }
-    let flips = words::flag(p.h < 16);
+    let flips = m.flip_bits();
     if !words::holds(flips, words::flag(e.flip_h)) {
         return Misfit::Flip;
     }
     if !words::holds(flips, words::flag(e.flip_v)) {
         return Misfit::Flip;
     }
-    let priority = words::flag(p.priority < 16);
-    if !words::holds(priority, words::flag(e.priority)) {
+    if !words::holds(m.priority_bits(), words::flag(e.priority)) {
         return Misfit::Priority;
     }
     Misfit::Nothing
@@ -161,37 +160,20 @@ pub fn entry_word(m: Mode, e: Mapentry) -> u32
     low + high + palette + h + v + priority
 }
 
-// The entry that a word holds, its values at these places.
-fn read_at(
-    word: u32,
-    low: u32,
-    high: u32,
-    palette: u32,
-    bits: u32,
-    h: u32,
-    v: u32,
-    priority: u32,
-) -> Mapentry
-    requires { ⌜ (word < 65536) × Near (at low high palette bits h v priority) ⌝ }
-    ensures { λ r. ⌜ r ≡ readAt (at low high palette bits h v priority) word ⌝ }
-{
-    let apart = words::low(words::down(word, high), 1);
-    Mapentry {
-        tile: words::low(word, low) + words::up(apart, low),
-        palette: words::low(words::down(word, palette), bits),
-        flip_h: words::low(words::down(word, h), 1) == 1,
-        flip_v: words::low(words::down(word, v), 1) == 1,
-        priority: words::low(words::down(word, priority), 1) == 1,
-    }
-}
-
 // The entry that a word holds.
 pub fn entry_in(m: Mode, word: u32) -> Mapentry
     requires { ⌜ (m .0 < 16) × (word < 65536) ⌝ }
     ensures { λ r. ⌜ r ≡ entryIn (m .0) word ⌝ }
 {
     let p = places_of(m);
-    read_at(word, p.low, p.high, p.palette, p.bits, p.h, p.v, p.priority)
+    let apart = words::low(words::down(word, p.high), 1);
+    Mapentry {
+        tile: words::low(word, p.low) + words::up(apart, p.low),
+        palette: words::low(words::down(word, p.palette), p.bits),
+        flip_h: words::low(words::down(word, p.h), 1) == 1,
+        flip_v: words::low(words::down(word, p.v), 1) == 1,
+        priority: words::low(words::down(word, p.priority), 1) == 1,
+    }
 }
 
 // How many bytes an entry has.
@@ -199,21 +181,14 @@ pub fn mapentry_size(m: Mode) -> usize
     requires { ⌜ m .0 < 16 ⌝ }
     ensures { λ r. ⌜ r ≡ row (m .0) .entry ⌝ }
 {
-    let number = m.0;
-    match number {
-        1 => 1, // snes_mode7
-        2 => 1, // gb
-        5 => 1, // gba_affine
-        10 => 0, // pce_sprite
-        _ => 2,
-    }
+    m.entry_size() as usize
 }
 
 // Whether the most byte stands first: in md alone.
 fn most_first(m: Mode) -> bool
     ensures { λ r. ⌜ r ≡ mostFirst (m .0) ⌝ }
 {
-    m.0 == 6
+    m.0 == console::MD
 }
 
 // The bytes of an entry that fits, from place at on.
@@ -245,7 +220,7 @@ pub fn pack_mapentry(mode: u32, e: Mapentry, out: &mut [u8]) -> Written
     let m = Mode(mode);
     let size = mapentry_size(m);
     if out.len() < size {
-        return words::refused(11);
+        return words::refused(refusal::OUTPUT);
     }
     put_entry(m, e, out, 0);
     Written {
@@ -267,27 +242,15 @@ fn no_entry(refusal: u32) -> Entry
     }
 }
 
-// Reads an entry of one or two bytes, its values at these places.
-fn read_entry(
-    bytes: &[u8],
-    size: usize,
-    most: bool,
-    low: u32,
-    high: u32,
-    palette: u32,
-    bits: u32,
-    h: u32,
-    v: u32,
-    priority: u32,
-) -> Entry
-    requires { ⌜ (0 < size) × (size ≤ 2) × Near (at low high palette bits h v priority) ⌝ }
-    ensures { λ r. ⌜ ReadEntry size most (at low high palette bits h v priority) (now (bytes .entry)) r ⌝ }
+// Reads an entry of a mode that has them.
+fn read_entry(m: Mode, bytes: &[u8]) -> Entry
+    requires { ⌜ (m .0 < 16) × (0 < row (m .0) .entry) ⌝ }
+    ensures { λ r. ⌜ r ≡ entered (sizeSays (row (m .0) .entry) (now (bytes .entry))) (entryOf (m .0) (now (bytes .entry))) ⌝ }
 {
-    if bytes.len() != size {
-        return no_entry(7);
+    if bytes.len() != mapentry_size(m) {
+        return no_entry(refusal::LENGTH);
     }
-    let word = words::get_word(bytes, 0, size, most);
-    let e = read_at(word, low, high, palette, bits, h, v, priority);
+    let e = get_entry(m, bytes, 0);
     Entry {
         refusal: 0,
         tile: e.tile,
@@ -298,28 +261,28 @@ fn read_entry(
     }
 }
 
-// Unpacks a map entry. The places of `places_of` stand here once more: looked up, they would make reading slower than the Rust.
+// Unpacks a map entry. Each arm names its mode, so that its places are numbers when it is compiled.
 pub fn unpack_mapentry(mode: u32, bytes: &[u8]) -> Entry
     ensures { λ r. ⌜ r ≡ entered (readSays mode (length (now (bytes .entry)))) (entryOf mode (now (bytes .entry))) ⌝ }
 {
     match mode {
-        0 => read_entry(bytes, 2, false, 10, 16, 10, 3, 14, 15, 13), // snes
-        1 => read_entry(bytes, 1, false, 8, 16, 16, 0, 16, 16, 16), // snes_mode7
-        2 => read_entry(bytes, 1, false, 8, 16, 16, 0, 16, 16, 16), // gb
-        3 => read_entry(bytes, 2, false, 8, 11, 8, 3, 13, 14, 15), // gbc
-        4 => read_entry(bytes, 2, false, 10, 16, 12, 4, 10, 11, 16), // gba
-        5 => read_entry(bytes, 1, false, 8, 16, 16, 0, 16, 16, 16), // gba_affine
-        6 => read_entry(bytes, 2, true, 11, 16, 13, 2, 11, 12, 15), // md
-        7 => read_entry(bytes, 2, false, 9, 16, 11, 1, 9, 10, 12), // sms
-        8 => read_entry(bytes, 2, false, 9, 16, 11, 1, 9, 10, 12), // gg
-        9 => read_entry(bytes, 2, false, 12, 16, 12, 4, 16, 16, 16), // pce
-        10 => no_entry(2), // pce_sprite
-        11 => read_entry(bytes, 2, false, 9, 16, 13, 1, 15, 14, 16), // ngp
-        12 => read_entry(bytes, 2, false, 9, 16, 9, 4, 15, 14, 16), // ngpc
-        13 => read_entry(bytes, 2, false, 9, 13, 9, 4, 14, 15, 16), // ws
-        14 => read_entry(bytes, 2, false, 9, 13, 9, 4, 14, 15, 16), // wsc
-        15 => read_entry(bytes, 2, false, 9, 13, 9, 4, 14, 15, 16), // wsc_packed
-        _ => no_entry(1),
+        console::SNES => read_entry(Mode::SNES, bytes),
+        console::SNES_MODE7 => read_entry(Mode::SNES_MODE7, bytes),
+        console::GB => read_entry(Mode::GB, bytes),
+        console::GBC => read_entry(Mode::GBC, bytes),
+        console::GBA => read_entry(Mode::GBA, bytes),
+        console::GBA_AFFINE => read_entry(Mode::GBA_AFFINE, bytes),
+        console::MD => read_entry(Mode::MD, bytes),
+        console::SMS => read_entry(Mode::SMS, bytes),
+        console::GG => read_entry(Mode::GG, bytes),
+        console::PCE => read_entry(Mode::PCE, bytes),
+        console::PCE_SPRITE => no_entry(refusal::PCE_SPRITE),
+        console::NGP => read_entry(Mode::NGP, bytes),
+        console::NGPC => read_entry(Mode::NGPC, bytes),
+        console::WS => read_entry(Mode::WS, bytes),
+        console::WSC => read_entry(Mode::WSC, bytes),
+        console::WSC_PACKED => read_entry(Mode::WSC_PACKED, bytes),
+        _ => no_entry(refusal::MODE),
     }
 }
 
@@ -327,15 +290,13 @@ fn index_size(m: Mode) -> usize
     requires { ⌜ m .0 < 16 ⌝ }
     ensures { λ r. ⌜ r ≡ indexSize (m .0) ⌝ }
 {
-    let number = m.0;
-    match number {
-        1 => 1, // snes_mode7
-        2 => 1, // gb
-        3 => 1, // gbc
-        5 => 1, // gba_affine
-        10 => 1, // pce_sprite
-        _ => 2,
+    if m.tile_bits() <= 8 {
+        return 1;
     }
+    if m.0 == console::GBC {
+        return 1;
+    }
+    2
 }
 
 // The tile index of an entry as bytes of its own.
@@ -348,7 +309,7 @@ pub fn get_tile_index(mode: u32, e: Mapentry, out: &mut [u8]) -> Written
     }
     let size = index_size(Mode(mode));
     if out.len() < size {
-        return words::refused(11);
+        return words::refused(refusal::OUTPUT);
     }
     words::put_word(out, 0, size, false, e.tile);
     Written {
@@ -361,7 +322,7 @@ pub fn get_tile_index(mode: u32, e: Mapentry, out: &mut [u8]) -> Written
 fn without_tile(m: Mode, e: Mapentry) -> Mapentry
     ensures { λ r. ⌜ r ≡ withoutTile (m .0) e ⌝ }
 {
-    if m.0 == 3 {
+    if m.0 == console::GBC {
         return e;
     }
     Mapentry {

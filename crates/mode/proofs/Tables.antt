@@ -9,19 +9,21 @@ use lib.Dec.{T, eqb, leb, ltb, leb→le, ltb→lt}
 use lib.ListN.{length, getD, take, replicate}
 use borrow.Author.Tests.{eq-eqb, ne-eqb}
 use Rattle.words.specs.Bytes.{same}
-use Rattle.words.proofs.Bytes.{same-eq}
+use Rattle.words.specs.Loops.{all}
+use Rattle.words.proofs.Bytes.{same-eq, read-off}
 use Rattle.words.proofs.Loops.{all-at}
 use Rattle.mode.specs.Table.{rows, row, depthAt, three, numbers, modeOf, oneOf, hasDepth}
 use Rattle.mode.specs.Names.{names, nameOf, namedFrom}
 use Rattle.mode.specs.declared.Named.the-variants.{Console}
 
--- the code's table of rows
-abbrev pub codeRows : List (List ℕ)
-codeRows = map numbers rows
-
-pub row-right : (m : ℕ) → m < 16 → getD codeRows m [] ≡ numbers (row m)
+-- the bits of an entry's fields, read off a row that is the mode's: twelve at most
+pub bits-off : (k : ℕ) → k < 4 → {m r : ℕ} {l : List ℕ} → m < 16 → r ≡ getD l (5 + k) 0 → l ≡ numbers (row m) → (r ≡ getD (numbers (row m)) (5 + k) 0) × (r ≤ 12)
 unfolding row
-row-right m h = same-eq (getD codeRows m []) (numbers (row m)) (all-at 16 (λ k. same (getD codeRows k []) (numbers (row k))) tt m h)
+bits-off k lt {m} h e is =
+    let n = getD (numbers (row m)) (5 + k) 0 in
+    let read = read-off (5 + k) e is in
+    let few = leb→le n 12 (all-at 4 (λ j. leb (getD (numbers (row m)) (5 + j) 0) 12) (all-at 16 (λ i. all 4 (λ j. leb (getD (numbers (row i)) (5 + j) 0) 12)) tt m h) k lt) in
+    (read, rw read few)
 
 -- a depth that is repeated is no other depth
 or-same : (a : Bool) → (a || (a || (a || false))) ≡ (a || false)

@@ -56,6 +56,9 @@ abbrev pub hasDepth : ℕ → ℕ → Bool
 hasDepth m depth = oneOf depth (row m .depths)
 
 -- The modes of which document 01 speaks by name.
+abbrev pub snes : ℕ
+snes = 0
+
 abbrev pub gbc : ℕ
 gbc = 3
 

@@ -1,6 +1,8 @@
 // The sixteen modes: document 01's table, and the modes' names.
+pub mod console;
+
 ghost use mathlib.Core.Path.{_≡_};
-ghost use Prim.Native.Nat.{_<_};
+ghost use Prim.Native.Nat.{_<_, _≤_};
 ghost use lib.ListN.{getD};
 ghost use Rattle.words.specs.Bytes.{same};
 ghost use Rattle.mode.specs.Table.{row, numbers, hasDepth, consoles};
@@ -53,45 +55,63 @@ pub const LENGTHS: [usize; 16] = [4, 10, 2, 3, 3, 10, 2, 3, 2, 3, 10, 3, 4, 2, 3
 pub struct Mode(pub u32);
 
 impl Mode {
-    pub const SNES: Mode = Mode(0);
+    pub const SNES: Mode = Mode(console::SNES);
 
-    pub const SNES_MODE7: Mode = Mode(1);
+    pub const SNES_MODE7: Mode = Mode(console::SNES_MODE7);
 
-    pub const GB: Mode = Mode(2);
+    pub const GB: Mode = Mode(console::GB);
 
-    pub const GBC: Mode = Mode(3);
+    pub const GBC: Mode = Mode(console::GBC);
 
-    pub const GBA: Mode = Mode(4);
+    pub const GBA: Mode = Mode(console::GBA);
 
-    pub const GBA_AFFINE: Mode = Mode(5);
+    pub const GBA_AFFINE: Mode = Mode(console::GBA_AFFINE);
 
-    pub const MD: Mode = Mode(6);
+    pub const MD: Mode = Mode(console::MD);
 
-    pub const SMS: Mode = Mode(7);
+    pub const SMS: Mode = Mode(console::SMS);
 
-    pub const GG: Mode = Mode(8);
+    pub const GG: Mode = Mode(console::GG);
 
-    pub const PCE: Mode = Mode(9);
+    pub const PCE: Mode = Mode(console::PCE);
 
-    pub const PCE_SPRITE: Mode = Mode(10);
+    pub const PCE_SPRITE: Mode = Mode(console::PCE_SPRITE);
 
-    pub const NGP: Mode = Mode(11);
+    pub const NGP: Mode = Mode(console::NGP);
 
-    pub const NGPC: Mode = Mode(12);
+    pub const NGPC: Mode = Mode(console::NGPC);
 
-    pub const WS: Mode = Mode(13);
+    pub const WS: Mode = Mode(console::WS);
 
-    pub const WSC: Mode = Mode(14);
+    pub const WSC: Mode = Mode(console::WSC);
 
-    pub const WSC_PACKED: Mode = Mode(15);
+    pub const WSC_PACKED: Mode = Mode(console::WSC_PACKED);
 
     // The mode's numbers, as the table has them.
     pub fn row(self) -> [u8; 9]
         requires { ⌜ self .0 < 16 ⌝ }
         ensures { λ r. ⌜ r ≡ numbers (row (self .0)) ⌝ }
     {
-        let m = self.0 as usize;
-        ROWS[m]
+        let rows = ROWS;
+        let number = self.0;
+        match number {
+            console::SNES => rows[0],
+            console::SNES_MODE7 => rows[1],
+            console::GB => rows[2],
+            console::GBC => rows[3],
+            console::GBA => rows[4],
+            console::GBA_AFFINE => rows[5],
+            console::MD => rows[6],
+            console::SMS => rows[7],
+            console::GG => rows[8],
+            console::PCE => rows[9],
+            console::PCE_SPRITE => rows[10],
+            console::NGP => rows[11],
+            console::NGPC => rows[12],
+            console::WS => rows[13],
+            console::WSC => rows[14],
+            _ => rows[15],
+        }
     }
 
     // Whether the depth is one of the mode's.
@@ -125,6 +145,42 @@ impl Mode {
     {
         let r = self.row();
         words::wide(r[4])
+    }
+
+    // How many bits of an entry the tile index has.
+    pub fn tile_bits(self) -> u32
+        requires { ⌜ self .0 < 16 ⌝ }
+        ensures { λ r. ⌜ (r ≡ row (self .0) .tile) × (r ≤ 12) ⌝ }
+    {
+        let r = self.row();
+        words::wide(r[5])
+    }
+
+    // How many bits of an entry the palette index has.
+    pub fn palette_bits(self) -> u32
+        requires { ⌜ self .0 < 16 ⌝ }
+        ensures { λ r. ⌜ (r ≡ row (self .0) .palette) × (r ≤ 12) ⌝ }
+    {
+        let r = self.row();
+        words::wide(r[6])
+    }
+
+    // How many bits of an entry each flip has.
+    pub fn flip_bits(self) -> u32
+        requires { ⌜ self .0 < 16 ⌝ }
+        ensures { λ r. ⌜ (r ≡ row (self .0) .flips) × (r ≤ 12) ⌝ }
+    {
+        let r = self.row();
+        words::wide(r[7])
+    }
+
+    // How many bits of an entry priority has.
+    pub fn priority_bits(self) -> u32
+        requires { ⌜ self .0 < 16 ⌝ }
+        ensures { λ r. ⌜ (r ≡ row (self .0) .priority) × (r ≤ 12) ⌝ }
+    {
+        let r = self.row();
+        words::wide(r[8])
     }
 
     // Whether the bytes are the mode's name.

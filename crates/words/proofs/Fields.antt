@@ -16,10 +16,10 @@ use Rattle.words.specs.Fields.{Field, join, split, bitsOf, bitsFor, areF
 use Rattle.words.proofs.Bytes.{word-bytes, bytes-word, word-lt}
 use Rattle.words.proofs.Loops.{both-left, both-right}
 
-first-field : (f : Field) (fs : List Field) → T (areFields (f ∷ fs)) → f .value < 6
+pub first-field : (f : Field) (fs : List Field) → T (areFields (f ∷ fs)) → f .value < 6
 first-field f fs t = ltb→lt (f .value) 6 (both-left (ltb (f .value) 6) (areFields fs) t)
 
-other-fields : (f : Field) (fs : List Field) → T (areFields (f ∷ fs)) → T (areFields fs)
+pub other-fields : (f : Field) (fs : List Field) → T (areFields (f ∷ fs)) → T (areFields fs)
 other-fields f fs t = both-right (ltb (f .value) 6) (areFields fs) t
 
 -- one digit below n with y above it

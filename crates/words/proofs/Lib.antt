@@ -7,3 +7,4 @@ pub mod Items
 pub mod Loops
 pub mod Order
 pub mod Results
+pub mod Starts

@@ -46,3 +46,17 @@ bitsFor k (f ∷ fs) = cond (eqb k (f .value)) (f .bits) 0 + bitsFor k fs
 abbrev pub areFields : List Field → Bool
 areFields [] = true
 areFields (f ∷ fs) = ltb (f .value) 6 && areFields fs
+
+-- Where the first field of value k begins, of fields from a bit on; 16, above every word, where there is none.
+abbrev pub startOf : ℕ → ℕ → List Field → ℕ
+startOf from k [] = 16
+startOf from k (f ∷ fs) = cond (eqb k (f .value)) from (startOf (from + f .bits) k fs)
+
+-- How many bits of value k the fields begin with, and where it begins again after other fields.
+abbrev pub runOf : ℕ → List Field → ℕ
+runOf k [] = 0
+runOf k (f ∷ fs) = cond (eqb k (f .value)) (f .bits + runOf k fs) 0
+
+abbrev pub startAgain : ℕ → ℕ → List Field → ℕ
+startAgain from k [] = 16
+startAgain from k (f ∷ fs) = cond (eqb k (f .value)) (startAgain (from + f .bits) k fs) (startOf (from + f .bits) k fs)

@@ -1,22 +1,48 @@
 -- Each value at its place in the word.
 use mathlib.Core.Path.{ap, _∙_}
-use Rattle.mapentry.specs.Places.{readAt}
+use Prim.Native.Nat.{_^_, _<_}
+use native.Mathlib.Nat.{mod-le}
+use native.Mathlib.Omega.{arith}
+use Rattle.words.proofs.Bits.{up-under}
+use Rattle.mapentry.specs.Inner.{readAt}
 use Rattle.mapentry.specs.declared.Places.{Places}
 use Rattle.mapentry.proofs.Links.{read-right}
 use borrow.Author.Needs.{needs}
 use Rattle.mapentry.proofs.entry_in.Statement.{statement}
 use Rattle.mapentry.proofs.entry_in.Tie as tie
 
-places-of-requires : tie.Need-places-of-requires
-places-of-requires c κs = search needs
-
-read-at-requires : tie.Need-read-at-requires
-read-at-requires c κs = search needs
+-- the tile index stays below 2 ^ 32
+add-t7 : tie.Need-add-t7
+add-t7 c =
+    let p = c .before .before .before .before .places-of in
+    let w = c .before .before .before .before .before .args .word in
+    let one : c .before .before .low .result < 2 ^ 1 = omega (arith, c .before .before .low .ensures) in
+    omega (arith, c .before .low2 .ensures, mod-le w (2 ^ (p .result .low)), c .up .ensures, up-under 1 12 one (p .ensures .1 .low))
 
 returns : tie.Need-returns
 returns c =
-    let s = c .before .before in
-    c .read-at .ensures ∙ ap (λ (p : Places). readAt p (s .args .word)) (c .before .places-of .ensures .0) ∙ read-right (s .args .m .0) (s .pre .0) (s .args .word) (s .pre .1)
+    let tiles = c .before .before .before .before .before .before .before .before in
+    let places = tiles .before .before .before .before in
+    let s = places .before in
+    rw (tiles .before .low2 .ensures, tiles .up .ensures, tiles .before .before .low .ensures, tiles .before .before .before .down .ensures, c .before .before .before .before .before .before .low3 .ensures, c .before .before .before .before .before .before .before .down2 .ensures, c .before .before .before .before .low4 .ensures, c .before .before .before .before .before .down3 .ensures, c .before .before .low5 .ensures, c .before .before .before .down4 .ensures, c .low6 .ensures, c .before .down5 .ensures)
+    (ap (λ (p : Places). readAt p (s .args .word)) (places .places-of .ensures .0) ∙ read-right (s .args .m .0) (s .pre .0) (s .args .word) (s .pre .1))
 
 pub entry-in-spec : {M : Type 1} → statement M
-entry-in-spec = tie.close (tie.spec places-of-requires read-at-requires returns)
+entry-in-spec =
+    tie.close
+    (tie.spec
+    (λ c κs. search needs)
+    (λ c κs. search needs)
+    (λ c κs. search needs)
+    (λ c κs. search needs)
+    (λ c κs. search needs)
+    add-t7
+    (λ c κs. search needs)
+    (λ c κs. search needs)
+    (λ c κs. search needs)
+    (λ c κs. search needs)
+    (λ c κs. search needs)
+    (λ c κs. search needs)
+    (λ c κs. search needs)
+    (λ c κs. search needs)
+    returns)

@@ -3,7 +3,6 @@ use mathlib.Core.Path.{_≡_, ap, _∙_}
 use Prim.Native.Nat.{_+_, _<_}
 use native.Mathlib.Omega.{arith}
 use lib.Pow.{shr-le}
-use Rattle.words.specs.Bytes.{bit}
 use Rattle.mapentry.specs.Entry.{entryWord}
 use Rattle.mapentry.specs.declared.Places.{Places}
 use Rattle.mapentry.proofs.Laws.{fitting, tile-small, palette-small, word-small}
@@ -13,17 +12,20 @@ use Rattle.mapentry.proofs.entry_word.Statement.{statement}
 use Rattle.mapentry.proofs.entry_word.Tie as tie
 
 -- the sum is the entry's word, and so below 65,536 at every step
-total : (c : tie.After-up5) → c .before .before .before .before .before .before .before .before .before .low .result + c .before .before .before .before .before .before .before .up .result + c .before .before .before .before .before .before .up2 .result + c .before .before .before .before .up3 .result + c .before .before .up4 .result + c .up5 .result ≡ entryWord (c .before .before .before .before .before .before .before .before .before .before .before .args .m .0) (c .before .before .before .before .before .before .before .before .before .before .before .args .e)
+total : (c : tie.After-up5) → let k = c .before .before .before .before .before in let a = k .before .before .before .before .before .before .args in
+    k .before .before .before .before .low .result + k .before .before .up .result + k .before .up2 .result + c .before .before .before .before .up3 .result + c .before .before .up4 .result + c .up5 .result ≡ entryWord (a .m .0) (a .e)
 total c =
-    let e = c .before .before .before .before .before .before .before .before .before .before .before .args .e in
-    let m = c .before .before .before .before .before .before .before .before .before .before .before .args .m .0 in
-    let f = fitting m e (c .before .before .before .before .before .before .before .before .before .before .before .pre .fits) in
-    rw (c .before .before .before .before .before .before .before .before .before .low .ensures, c .before .before .before .before .before .before .before .up .ensures, c .before .before .before .before .before .before .before .before .down .ensures, c .before .before .before .before .before .before .up2 .ensures, c .before .before .before .before .up3 .ensures, c .before .before .before .before .before .flag .ensures .0, c .before .before .up4 .ensures, c .before .before .before .flag2 .ensures .0, c .up5 .ensures, c .before .flag3 .ensures .0)
-    (ap (λ (p : Places). summed p (e .tile) (e .palette) (bit (e .«flip_h»)) (bit (e .«flip_v»)) (bit (e .priority))) (c .before .before .before .before .before .before .before .before .before .before .places-of .ensures .0)
-    ∙ summed-right m (c .before .before .before .before .before .before .before .before .before .before .before .pre .mode) (e .tile) (e .palette) (bit (e .«flip_h»)) (bit (e .«flip_v»)) (bit (e .priority)) (f .tile) (f .palette) (f .h) (f .v) (f .priority))
+    let k = c .before .before .before .before .before in
+    let places = k .before .before .before .before .before in
+    let s = places .before in
+    rw (k .before .before .before .before .low .ensures, k .before .before .up .ensures, k .before .before .before .down .ensures, k .before .up2 .ensures, c .before .before .before .before .up3 .ensures, k .flag .ensures .0, c .before .before .up4 .ensures, c .before .before .before .flag2 .ensures .0, c .up5 .ensures, c .before .flag3 .ensures .0)
+    (ap (λ (p : Places). summed p (s .args .e)) (places .places-of .ensures .0)
+    ∙ summed-right (s .args .m .0) (s .pre .mode) (s .args .e) (fitting (s .args .m .0) (s .args .e) (s .pre .fits)))
 
-word-fits : (c : tie.After-up5) → entryWord (c .before .before .before .before .before .before .before .before .before .before .before .args .m .0) (c .before .before .before .before .before .before .before .before .before .before .before .args .e) < 65536
-word-fits c = word-small (c .before .before .before .before .before .before .before .before .before .before .before .args .m .0) (c .before .before .before .before .before .before .before .before .before .before .before .pre .mode) (c .before .before .before .before .before .before .before .before .before .before .before .args .e)
+word-fits : (c : tie.After-up5) → let a = c .before .before .before .before .before .before .before .before .before .before .before .args in entryWord (a .m .0) (a .e) < 65536
+word-fits c =
+    let s = c .before .before .before .before .before .before .before .before .before .before .before in
+    word-small (s .args .m .0) (s .pre .mode) (s .args .e)
 
 places-of-requires : tie.Need-places-of-requires
 places-of-requires c κs = search needs

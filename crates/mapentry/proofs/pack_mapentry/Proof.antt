@@ -5,12 +5,12 @@ use native.Mathlib.Omega.{arith}
 use lib.ListN.{length}
 use denote.Ref.{now}
 use Rattle.words.specs.Answers.{written}
-use Rattle.words.proofs.Answers.{refuse, done, before-space, no-space, space-left}
+use Rattle.words.proofs.Answers.{refuse, done}
 use Rattle.words.proofs.Bytes.{length-bytes}
 use Rattle.words.proofs.Loops.{sets-front}
 use Rattle.mode.specs.Table.{row}
-use Rattle.mapentry.specs.Entry.{packSays, entrySays, entryWord, entryBytes, mostFirst, IsEntry}
-use Rattle.mapentry.proofs.Laws.{is-entry}
+use Rattle.mapentry.specs.Entry.{packSays, entryWord, entryBytes, mostFirst, IsEntry}
+use Rattle.mapentry.proofs.Laws.{is-entry, entry-first, entry-no-space, entry-space}
 use borrow.Author.Needs.{needs}
 use Rattle.mapentry.proofs.pack_mapentry.Statement.{statement}
 use Rattle.mapentry.proofs.pack_mapentry.Tie as tie
@@ -30,7 +30,7 @@ unfolding packSays
 returns c =
     let n = c .before .before .entry-says .result in
     let a = c .before .before .before .before .args in
-    refuse n (before-space n (length (now (a .out))) (row (a .mode) .entry) (c .before .before .entry-says .ensures) (c .before .if1 .taken)) (c .before .if1 .taken) (c .refused .ensures) refl
+    refuse n (entry-first (a .mode) (a .e) (length (now (a .out))) (row (a .mode) .entry) n (c .before .before .entry-says .ensures) (c .before .if1 .taken)) (c .before .if1 .taken) (c .refused .ensures) refl
 
 mapentry-size-requires : tie.Need-mapentry-size-requires
 mapentry-size-requires c κs = passes c .mode
@@ -43,7 +43,7 @@ unfolding packSays
 returns-2 c =
     let a = c .before .before .before .before .before .before .args in
     let short = rw (c .before .before .mapentry-size .ensures) at (c .before .if2 .taken) in
-    refuse 11 (no-space (entrySays (a .mode) (a .e)) (length (now (a .out))) (row (a .mode) .entry) (sym (c .before .before .before .before .entry-says .ensures) ∙ c .before .before .before .if1 .left) short) (λ z. omega arith) (c .refused2 .ensures) refl
+    refuse 11 (entry-no-space (a .mode) (a .e) (length (now (a .out))) (row (a .mode) .entry) (sym (c .before .before .before .before .entry-says .ensures) ∙ c .before .before .before .if1 .left) short) (λ z. omega arith) (c .refused2 .ensures) refl
 
 put-entry-requires : tie.Need-put-entry-requires
 put-entry-requires c κs = (passes (c .before .before .before), omega (arith, c .before .before .mapentry-size .ensures))
@@ -57,7 +57,7 @@ returns-3 c =
     let a = c .before .before .before .before .before .before .before .before .before .args in
     let space = rw (c .before .before .before .before .before .mapentry-size .ensures) at (c .before .before .before .before .if2 .left) in
     let size = length-bytes (row (a .mode) .entry) (mostFirst (a .mode)) (entryWord (a .mode) (a .e)) in
-    done (space-left (entrySays (a .mode) (a .e)) (length (now (a .out))) (row (a .mode) .entry) (sym (c .before .before .before .before .before .before .before .entry-says .ensures) ∙ c .before .before .before .before .before .before .if1 .left) space)
+    done (entry-space (a .mode) (a .e) (length (now (a .out))) (row (a .mode) .entry) (sym (c .before .before .before .before .before .before .before .entry-says .ensures) ∙ c .before .before .before .before .before .before .if1 .left) space)
     (ap (λ (n : ℕ). written 0 n) (c .before .before .before .before .before .mapentry-size .ensures ∙ sym size))
     (c .before .before .put-entry .ensures ∙ sets-front (now (a .out)) (entryBytes (a .mode) (a .e)) (rw size space))
 
