@@ -15,7 +15,7 @@ use Rattle.flip.specs.Matching.{matchFlip, isUnder, matches}
 use Rattle.flip.specs.declared.Match.{Match}
 use Rattle.flip.specs.declared.Match.the-variants.{Under, Never}
 use Rattle.flip.proofs.Equivalence.{matches-trans, not-both}
-use Rattle.tileset.specs.Finding.{foundOr, findIn, tilesFrom, tilesIn, lookUp, isFound}
+use Rattle.tileset.specs.Finding.{logical, foundOr, findIn, tilesFrom, tilesIn, lookUp, isFound}
 use Rattle.tileset.specs.Matched.{matchesSome}
 use Rattle.tileset.specs.declared.Found.{Found}
 use Rattle.tileset.specs.declared.Found.the-variants.{At, Nothing}
@@ -120,7 +120,7 @@ module _ (on : Bool) (t : List ℕ) where
     skip-case k r (Under f) p s e =
         let here : matches on 8 8 (getD tiles k []) t ≡ true = ap isUnder e in
         let w = s (ap (λ (n : ℕ). n % 4096) (matches-key on (getD tiles k []) t here)) in
-        shaded k (w .0) (At k f) r (omega arith) (w .1) (matches-trans on 8 8 (omega arith) (getD tiles (w .0) []) (getD tiles k []) t (w .2) here)
+        shaded k (w .0) (At (logical k) f) r (omega arith) (w .1) (matches-trans on 8 8 (omega arith) (getD tiles (w .0) []) (getD tiles k []) t (w .2) here)
     skip-case k r Never p s e = refl
 
     skip : (k : ℕ) (r : Found) → k < length tiles → Skip on tiles (bucketOf on t) k → below (suc k) r ≡ below k r

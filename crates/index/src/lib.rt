@@ -3,6 +3,7 @@
 use flip::Flip;
 use flip::Match;
 use tileset::Found;
+use tileset::Logical;
 ghost use mathlib.Core.Path.{_≡_};
 ghost use mathlib.Core.List.{[], _∷_, _++_};
 ghost use Prim.Native.Nat.{_+_, _*_, _%_, _<_, _≤_};
@@ -146,7 +147,7 @@ fn over(m: Match, k: usize, found: Found) -> Found
     let Match::Under(f) = m else {
         return found;
     };
-    Found::At(k as u32, f)
+    Found::At(Logical(k as u32), f)
 }
 
 // The link that follows tile k in bucket b.

@@ -49,7 +49,7 @@ code-v k false true = eq-eqb ((k * 4 + 0 + 2 * 1) / 2 % 2) 1 (omega arith)
 code-v k false false = ne-eqb ((k * 4 + 0 + 2 * 0) / 2 % 2) 1 (λ e. omega arith)
 
 pub entry-back : (palette : ℕ) (found : Found) → entryCoded palette (codeOf found) ≡ entryFor palette found
-entry-back palette (At k f) = rw (code-place k (f .h) (f .v), code-h k (f .h) (f .v), code-v k (f .h) (f .v))
+entry-back palette (At k f) = rw (code-place (k .0) (f .h) (f .v), code-h (k .0) (f .h) (f .v), code-v (k .0) (f .h) (f .v))
 entry-back palette Nothing = refl
 
 -- ---- what was gathered

@@ -21,6 +21,7 @@ use Rattle.flip.specs.Flips.{flipped}
 use Rattle.flip.specs.declared.Flip.{Flip}
 use Rattle.flip.proofs.Equivalence.{not-both}
 use Rattle.tileset.specs.Finding.{lookUp, isFound, cutTo}
+use Rattle.tileset.specs.declared.Logical.{Logical}
 use Rattle.tileset.specs.declared.Found.{Found}
 use Rattle.tileset.specs.declared.Found.the-variants.{At, Nothing}
 use Rattle.tileset.proofs.Stores.{length-cut, cut-at}
@@ -60,11 +61,11 @@ module _ (z : Settings) (pixels : List ℕ) where
 
   -- each tile has a stored tile that an allowed flip takes to it
   record Named (i : ℕ) : Type 0 where
-    place : ℕ
+    place : Logical
     under : Flip
     found : foundAt z pixels i ≡ At place under
-    inside : place < length stored
-    takes : flipped under 8 8 (getD stored place []) ≡ tile i
+    inside : place .0 < length stored
+    takes : flipped under 8 8 (getD stored (place .0) []) ≡ tile i
 
   named-case : (i : ℕ) → i < places z → (r : Found) → foundAt z pixels i ≡ r → isFound r ≡ true → Named i
   unfolding foundAt
@@ -107,7 +108,7 @@ module _ (z : Settings) (pixels : List ℕ) where
         ∙ pixels-back (z .mode) (z .depth) 8 8 (tile-8 (z .mode) (z .depth) (size .mode) (size .map) (size .depth)) (getD stored k []) (stored-size k lt) (λ i l. stored-small k lt i)
 
     -- the entry that is read back
-    entry-is : (i : ℕ) → i < places z → (n : Named i) → entryAt (z .mode) (mapBytes z pixels) i ≡ entryAs (n .place) (z .palette) (n .under .h) (n .under .v)
+    entry-is : (i : ℕ) → i < places z → (n : Named i) → entryAt (z .mode) (mapBytes z pixels) i ≡ entryAs (n .place .0) (z .palette) (n .under .h) (n .under .v)
     unfolding entryAt mapBytes
     entry-is i lt n =
         ap (entryOf (z .mode))
@@ -122,14 +123,14 @@ module _ (z : Settings) (pixels : List ℕ) where
     drawn-tile i lt =
         let n = named i lt in
         ap (drawnTile (z .mode) (z .depth) (tileBytes z pixels)) (entry-is i lt n)
-        ∙ ap (flipped (n .under) 8 8) (tile-back (n .place) (n .inside))
+        ∙ ap (flipped (n .under) 8 8) (tile-back (n .place .0) (n .inside))
         ∙ n .takes
 
     names-one : (i : ℕ) → i < places z → namesMore (z .mode) (z .depth) (length (tileBytes z pixels)) (mapBytes z pixels) i ≡ false
     names-one i lt =
         let n = named i lt in
         let count : length (tileBytes z pixels) / (z .depth * 8) ≡ length stored = ap (λ (l : ℕ). l / (z .depth * 8)) (tile-bytes-length z pixels picture) ∙ mul-div-cancel (length stored) (omega (arith, size .shallow)) in
-        let place : entryAt (z .mode) (mapBytes z pixels) i .tile ≡ n .place = ap (λ (e : Mapentry). e .tile) (entry-is i lt n) in
+        let place : entryAt (z .mode) (mapBytes z pixels) i .tile ≡ n .place .0 = ap (λ (e : Mapentry). e .tile) (entry-is i lt n) in
         lt-leb (length (tileBytes z pixels) / (z .depth * 8)) (entryAt (z .mode) (mapBytes z pixels) i .tile) (omega (arith, n .inside))
 
     pub redraw-accepted : (room : ℕ) → 64 * places z ≤ room → redrawSays (z .mode) (z .depth) (z .columns) (z .rows) (tileBytes z pixels) (mapBytes z pixels) room ≡ 0

@@ -11,5 +11,5 @@ abbrev pub entryAs : ℕ → ℕ → Bool → Bool → Mapentry
 entryAs tile palette h v = record { tile = tile; palette = palette; «flip_h» = h; «flip_v» = v; priority = false }
 
 abbrev pub entryFor : ℕ → Found → Mapentry
-entryFor palette (At k f) = entryAs k palette (f .h) (f .v)
+entryFor palette (At k f) = entryAs (k .0) palette (f .h) (f .v)
 entryFor palette Nothing = entryAs 0 palette false false

@@ -13,7 +13,7 @@ use Rattle.mode.specs.Table.{row, hasDepth, pce-sprite}
 use Rattle.mapentry.specs.Entry.{misfitOf, misfitSays, IsEntry}
 use Rattle.mapentry.specs.declared.Mapentry.{Mapentry}
 use Rattle.flip.specs.Flips.{flip}
-use Rattle.tileset.specs.Finding.{tilesIn, lookUp}
+use Rattle.tileset.specs.Finding.{logical, tilesIn, lookUp}
 use Rattle.tileset.specs.declared.Found.{Found}
 use Rattle.tileset.specs.declared.Found.the-variants.{At, Nothing}
 use Rattle.index.specs.Index.{Indexed, Entered}
@@ -54,11 +54,11 @@ pub record HasTile (depth : ℕ) (pixels : List ℕ) (columns i : ℕ) : Type 0 
 -- Where a tile stands that was looked up, and stored as tile n if nothing was found.
 abbrev pub standing : Found → ℕ → Found
 standing (At k f) n = At k f
-standing Nothing n = At n (flip false false)
+standing Nothing n = At (logical n) (flip false false)
 
 -- A place with its flip as one number, until the map is written; and its entry.
 abbrev pub codeOf : Found → ℕ
-codeOf (At k f) = k * 4 + bit (f .h) + 2 * bit (f .v)
+codeOf (At k f) = k .0 * 4 + bit (f .h) + 2 * bit (f .v)
 codeOf Nothing = 0
 
 abbrev pub entryCoded : ℕ → ℕ → Mapentry

@@ -3,6 +3,7 @@ use flip::Flip;
 use mapentry::Mapentry;
 use mode::Mode;
 use tileset::Found;
+use tileset::Logical;
 use words::Written;
 ghost use mathlib.Core.Path.{_≡_};
 ghost use mathlib.Core.Bool.{false, _&&_};
@@ -206,11 +207,11 @@ fn is_discarded(discard: bool, found: Found) -> bool
 }
 
 // A place with its flip as one number.
-fn code(place: u32, f: Flip) -> u16
-    requires { ⌜ place ≤ 4096 ⌝ }
+fn code(place: Logical, f: Flip) -> u16
+    requires { ⌜ place .0 ≤ 4096 ⌝ }
     ensures { λ r. ⌜ r ≡ codeOf (Found.At place f) ⌝ }
 {
-    (place * 4 + words::flag(f.h) + 2 * words::flag(f.v)) as u16
+    (place.0 * 4 + words::flag(f.h) + 2 * words::flag(f.v)) as u16
 }
 
 // Where a tile stands: where it was found, or after the others.

@@ -17,6 +17,7 @@ use Rattle.tileset.specs.Finding.{cutTo, foundIn, isFound}
 use Rattle.tileset.specs.Adding.{discards, oneStored, oneDiscarded, addSays, added, storeWith, Adds}
 use Rattle.tileset.specs.declared.Set.{Set}
 use Rattle.tileset.specs.declared.SetAnswer.{SetAnswer}
+use Rattle.tileset.specs.declared.Logical.{Logical}
 use Rattle.tileset.specs.declared.Found.{Found}
 use Rattle.tileset.specs.declared.Found.the-variants.{At, Nothing}
 use Rattle.tileset.proofs.Says.{next-given, refused-set, done-set}
@@ -37,7 +38,7 @@ module _ (z : Set) (s p : List ℕ) where
   pub keep-new : foundIn z s p ≡ Nothing → discards z s p ≡ false
   keep-new e = rw e (and-false (z .discarding))
 
-  pub drop-found : {k : ℕ} {f : Flip} → z .discarding ≡ true → foundIn z s p ≡ At k f → discards z s p ≡ true
+  pub drop-found : {k : Logical} {f : Flip} → z .discarding ≡ true → foundIn z s p ≡ At k f → discards z s p ≡ true
   drop-found e g = ap (λ (b : Bool). b && isFound (foundIn z s p)) e ∙ ap (λ (x : Found). true && isFound x) g
 
   abbrev ends : Bool

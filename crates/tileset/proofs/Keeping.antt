@@ -19,16 +19,17 @@ use Rattle.flip.specs.declared.Match.the-variants.{Under, Never}
 use Rattle.flip.proofs.Group.{flipped-none}
 use Rattle.flip.proofs.Rows.{eq-same}
 use Rattle.flip.proofs.Equivalence.{Takes, Told, match-told, not-both}
-use Rattle.tileset.specs.Finding.{foundOr, findIn, lookUp, isFound}
+use Rattle.tileset.specs.Finding.{logical, foundOr, findIn, lookUp, isFound}
 use Rattle.tileset.specs.Matched.{matchesSome, Apart}
 use Rattle.tileset.specs.Keeping.{keep, keepAll, kept, fresh, again, need, discarded}
+use Rattle.tileset.specs.declared.Logical.{Logical}
 use Rattle.tileset.specs.declared.Found.{Found}
 use Rattle.tileset.specs.declared.Found.the-variants.{At, Nothing}
 use Rattle.tileset.proofs.Matched.{look-some, Alike, alike-kept, alike-gone, apart-none, apart-more}
 
 -- ---- a look-up among some tiles
 
-not-at : {P : Type 0} {k : ℕ} {f : Flip} → At k f ≡ Nothing → P
+not-at : {P : Type 0} {k : Logical} {f : Flip} → At k f ≡ Nothing → P
 not-at e = not-both (sym (ap isFound e))
 
 module _ (on : Bool) (w h : ℕ) (t : List ℕ) where
@@ -55,20 +56,20 @@ module _ (on : Bool) (w h : ℕ) (t : List ℕ) where
     or-last (Under f) k r s last e next = not-at e
     or-last Never k r s last e next = next e
 
-    find-last : (k : ℕ) (xs : List (List ℕ)) → findIn on w h t k xs ≡ Nothing → findIn on w h t k (xs ++ t ∷ []) ≡ At (k + length xs) (flip false false)
+    find-last : (k : ℕ) (xs : List (List ℕ)) → findIn on w h t k xs ≡ Nothing → findIn on w h t k (xs ++ t ∷ []) ≡ At (logical (k + length xs)) (flip false false)
     find-last k [] e = rw (match-self, add-zero k)
     find-last k (a ∷ xs) e =
-        or-last (matchFlip on w h a t) k (findIn on w h t (suc k) xs) (findIn on w h t (suc k) (xs ++ t ∷ [])) (At (k + suc (length xs)) (flip false false)) e
-        (λ n. find-last (suc k) xs n ∙ ap (λ (i : ℕ). At i (flip false false)) (suc-add k (length xs) ∙ sym (add-suc k (length xs))))
+        or-last (matchFlip on w h a t) k (findIn on w h t (suc k) xs) (findIn on w h t (suc k) (xs ++ t ∷ [])) (At (logical (k + suc (length xs))) (flip false false)) e
+        (λ n. find-last (suc k) xs n ∙ ap (λ (i : ℕ). At (logical i) (flip false false)) (suc-add k (length xs) ∙ sym (add-suc k (length xs))))
 
     -- a tile that is not found, put at the end, is found there
-    pub look-last : (xs : List (List ℕ)) → lookUp on w h xs t ≡ Nothing → lookUp on w h (xs ++ t ∷ []) t ≡ At (length xs) (flip false false)
+    pub look-last : (xs : List (List ℕ)) → lookUp on w h xs t ≡ Nothing → lookUp on w h (xs ++ t ∷ []) t ≡ At (logical (length xs)) (flip false false)
     unfolding lookUp
-    look-last xs e = find-last 0 xs e ∙ ap (λ (i : ℕ). At i (flip false false)) (zero-add (length xs))
+    look-last xs e = find-last 0 xs e ∙ ap (λ (i : ℕ). At (logical i) (flip false false)) (zero-add (length xs))
 
   -- what an answer tells: an allowed flip takes the tile at the place to the tile that was asked for
   abbrev Stands : ℕ → List (List ℕ) → Found → Type 0
-  Stands k xs (At j f) = (i : ℕ) × (j ≡ k + i) × (i < length xs) × Takes on w h (getD xs i []) t f
+  Stands k xs (At j f) = (i : ℕ) × (j .0 ≡ k + i) × (i < length xs) × Takes on w h (getD xs i []) t f
   Stands k xs Nothing = Unit {0}
 
   next-stands : (a : List ℕ) (k : ℕ) (xs : List (List ℕ)) (r : Found) → Stands (suc k) xs r → Stands k (a ∷ xs) r
@@ -83,11 +84,11 @@ module _ (on : Bool) (w h : ℕ) (t : List ℕ) where
   find-stands k [] = tt
   find-stands k (a ∷ xs) = or-stands a k xs (matchFlip on w h a t) (findIn on w h t (suc k) xs) (match-told on w h a t) (find-stands (suc k) xs)
 
-  pub look-told : (xs : List (List ℕ)) {k : ℕ} {f : Flip} → lookUp on w h xs t ≡ At k f → (k < length xs) × Takes on w h (getD xs k []) t f
+  pub look-told : (xs : List (List ℕ)) {k : Logical} {f : Flip} → lookUp on w h xs t ≡ At k f → (k .0 < length xs) × Takes on w h (getD xs (k .0) []) t f
   unfolding lookUp
   look-told xs {k} {f} e =
       let s : Stands 0 xs (At k f) = subst (Stands 0 xs) e (find-stands 0 xs) in
-      let q : k ≡ s .0 = omega (arith, s .1) in
+      let q : k .0 ≡ s .0 = omega (arith, s .1) in
       (omega (arith, s .2), subst (λ (i : ℕ). Takes on w h (getD xs i []) t f) (sym q) (s .3))
 
 -- ---- one tile more
@@ -108,7 +109,7 @@ module _ (discard on : Bool) (w h : ℕ) where
       refl (look-more on w h t st (u ∷ []) p)
 
   -- what a look-up finds right after the tile was taken: what it found before, or the last place
-  pub after-found : (st : List (List ℕ)) (t : List ℕ) {k : ℕ} {f : Flip} → lookUp on w h st t ≡ At k f → lookUp on w h (keep discard on w h st t) t ≡ At k f
+  pub after-found : (st : List (List ℕ)) (t : List ℕ) {k : Logical} {f : Flip} → lookUp on w h st t ≡ At k f → lookUp on w h (keep discard on w h st t) t ≡ At k f
   after-found st t e = found-more st t t (ap isFound e) ∙ e
 
   not-found : (d : Bool) (r : Found) → r ≡ Nothing → (d && isFound r) ≡ false
@@ -121,7 +122,7 @@ module _ (discard on : Bool) (w h : ℕ) where
   keep-new st t e = ap (λ (b : Bool). cond b st (st ++ t ∷ [])) (not-found discard (lookUp on w h st t) e)
 
   pub after-new : 0 < w → (st : List (List ℕ)) (t : List ℕ) → length t ≡ w * h → lookUp on w h st t ≡ Nothing
-      → lookUp on w h (keep discard on w h st t) t ≡ At (length st) (flip false false)
+      → lookUp on w h (keep discard on w h st t) t ≡ At (logical (length st)) (flip false false)
   after-new z st t len e = ap (λ (x : List (List ℕ)). lookUp on w h x t) (keep-new st t e) ∙ look-last on w h t z len st e
 
   self-case : 0 < w → (st : List (List ℕ)) (t : List ℕ) → length t ≡ w * h → (r : Found) → lookUp on w h st t ≡ r → isFound (lookUp on w h (keep discard on w h st t) t) ≡ true
@@ -132,7 +133,7 @@ module _ (discard on : Bool) (w h : ℕ) where
   pub keep-self : 0 < w → (st : List (List ℕ)) (t : List ℕ) → length t ≡ w * h → isFound (lookUp on w h (keep discard on w h st t) t) ≡ true
   keep-self z st t len = self-case z st t len (lookUp on w h st t) refl
 
-  pub found-below : (st : List (List ℕ)) (t : List ℕ) {k : ℕ} {f : Flip} → lookUp on w h st t ≡ At k f → k < length st
+  pub found-below : (st : List (List ℕ)) (t : List ℕ) {k : Logical} {f : Flip} → lookUp on w h st t ≡ At k f → k .0 < length st
   found-below st t e = look-told on w h t st e .0
 
   pub keep-grows : (st : List (List ℕ)) (t : List ℕ) → length st ≤ length (keep discard on w h st t)

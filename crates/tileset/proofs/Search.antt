@@ -11,7 +11,7 @@ use lib.ListN.{take, drop}
 use Rattle.flip.specs.Matching.{matchFlip}
 use Rattle.flip.specs.declared.Flip.{Flip}
 use Rattle.flip.specs.declared.Match.the-variants.{Under, Never}
-use Rattle.tileset.specs.Finding.{foundOr, findIn, tilesFrom, tilesIn, lookUp}
+use Rattle.tileset.specs.Finding.{logical, foundOr, findIn, tilesFrom, tilesIn, lookUp}
 use Rattle.tileset.specs.declared.Found.{Found}
 use Rattle.tileset.specs.declared.Found.the-variants.{At, Nothing}
 
@@ -33,7 +33,7 @@ module _ (on : Bool) (w h n : ℕ) (store tile : List ℕ) (count : ℕ) where
   pub look-miss : (k : ℕ) → k < count → matchFlip on w h (take n (drop (k * n) store)) tile ≡ Never → lookFrom k ≡ lookFrom (k + 1)
   look-miss k p e = one k p ∙ rw e
 
-  pub look-hit : (k : ℕ) (f : Flip) → k < count → matchFlip on w h (take n (drop (k * n) store)) tile ≡ Under f → lookFrom k ≡ At k f
+  pub look-hit : (k : ℕ) (f : Flip) → k < count → matchFlip on w h (take n (drop (k * n) store)) tile ≡ Under f → lookFrom k ≡ At (logical k) f
   look-hit k f p e = one k p ∙ rw e
 
   pub look-end : (k : ℕ) → count ≤ k → lookFrom k ≡ Nothing

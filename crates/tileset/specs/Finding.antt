@@ -14,6 +14,7 @@ use Rattle.tileset.specs.declared.Set.{Set}
 use Rattle.tileset.specs.declared.Found.{Found}
 use Rattle.tileset.specs.declared.Found.the-variants.{At, Nothing}
 use Rattle.tileset.specs.declared.Place.{Place}
+use Rattle.tileset.specs.declared.Logical.{Logical}
 
 -- "Adding and look-up first cut the given pixels to their low depth bits."
 unfoldable pub cutTo : ℕ → List ℕ → List ℕ
@@ -27,9 +28,12 @@ tilesFrom n store k (suc count) = take n (drop (k * n) store) ∷ tilesFrom n st
 unfoldable pub tilesIn : ℕ → List ℕ → ℕ → List (List ℕ)
 tilesIn n store count = tilesFrom n store 0 count
 
--- "The first stored tile": of some tiles, the first having place k, the first that matches.
+-- "The first stored tile": of some tiles, the first having place k, the first that matches. Its place is a logical number.
+abbrev pub logical : ℕ → Logical
+logical n = record { 0 = n }
+
 abbrev pub foundOr : Match → ℕ → Found → Found
-foundOr (Under f) k rest = At k f
+foundOr (Under f) k rest = At (logical k) f
 foundOr Never k rest = rest
 
 abbrev pub findIn : Bool → ℕ → ℕ → List ℕ → ℕ → List (List ℕ) → Found
@@ -52,7 +56,7 @@ abbrev pub noPlace : ℕ → Place
 noPlace n = record { refusal = n; found = false; place = 0; «flip_h» = false; «flip_v» = false }
 
 abbrev pub placeOf : Found → Place
-placeOf (At k f) = record { refusal = 0; found = true; place = k; «flip_h» = f .h; «flip_v» = f .v }
+placeOf (At k f) = record { refusal = 0; found = true; place = k .0; «flip_h» = f .h; «flip_v» = f .v }
 placeOf Nothing = noPlace 0
 
 abbrev pub placed : ℕ → Found → Place

@@ -1,5 +1,6 @@
 // Looking a tile up: the first stored tile that matches it, under a flip.
 use crate::Found;
+use crate::Logical;
 use crate::Place;
 use crate::Set;
 use crate::sets::look_says;
@@ -43,7 +44,7 @@ pub fn find(
             k += 1;
             continue;
         };
-        return Found::At(k, f);
+        return Found::At(Logical(k), f);
     }
     Found::Nothing
 }
@@ -87,7 +88,7 @@ fn place_of(found: Found) -> Place
     Place {
         refusal: 0,
         found: true,
-        place,
+        place: place.0,
         flip_h: f.h,
         flip_v: f.v,
     }

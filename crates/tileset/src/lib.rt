@@ -37,9 +37,9 @@ pub struct SetAnswer {
     pub set: Set,
 }
 
-// What a look-up finds: a place with its flip, or nothing.
+// What a look-up finds: a place, which is a logical number, with its flip; or nothing.
 pub enum Found {
-    At(u32, Flip),
+    At(Logical, Flip),
     Nothing,
 }
 
