@@ -3,126 +3,93 @@
 use mathlib.Core.Path.{_≡_, refl, sym, ap, _∙_}
 use mathlib.Core.Bool.{Bool, true, false, not, cond, _&&_, and-false}
 use mathlib.Core.List.{List, [], _∷_}
-use Prim.Native.Nat.{ℕ, _*_, _<_, _≤_}
+use Prim.Native.Nat.{ℕ, _<_, _≤_}
 use native.Mathlib.Omega.{arith}
-use lib.Dec.{leb, eqb}
 use lib.ListN.{length}
-use lib.Seq.{sets}
 use borrow.Author.Tests.{le-leb, lt-leb}
-use Rattle.words.specs.Answers.{_when_, firstApplying, unless}
+use Rattle.words.specs.Answers.{_when_, firstApplying}
 use Rattle.words.proofs.Answers.{first-given, either-way, when-refused, when-done}
-use Rattle.flip.specs.declared.Flip.{Flip}
-use Rattle.tileset.specs.Sets.{area, roomIn, lookSays, answeredSet}
-use Rattle.tileset.specs.Finding.{cutTo, foundIn, isFound}
-use Rattle.tileset.specs.Adding.{discards, oneStored, oneDiscarded, addSays, added, storeWith, Adds}
+use Rattle.words.proofs.Order.{first-append}
+use Rattle.tileset.specs.Sets.{roomIn, lookChecks, lookSays, answeredSet}
+use Rattle.tileset.specs.Finding.{foundIn, isFound}
+use Rattle.tileset.specs.Adding.{discards, noRoom, counterFull, endChecks, oneStored, oneDiscarded, atEnd, addSays, added, storeWith, Adds, AddsTile, Stores, discardAnswer}
 use Rattle.tileset.specs.declared.Set.{Set}
 use Rattle.tileset.specs.declared.SetAnswer.{SetAnswer}
-use Rattle.tileset.specs.declared.Logical.{Logical}
 use Rattle.tileset.specs.declared.Found.{Found}
-use Rattle.tileset.specs.declared.Found.the-variants.{At, Nothing}
+use Rattle.tileset.specs.declared.Found.the-variants.{Nothing}
 use Rattle.tileset.proofs.Says.{next-given, refused-set, done-set}
 
--- a last check that applies, or none
-last-12 : (b : Bool) → firstApplying (12 when b ∷ 0 ∷ []) ≡ 12 when b
-last-12 true = refl
-last-12 false = refl
+-- one of the two last checks counts
+ends-by : (d a b : Bool) → firstApplying (12 when (not d && a) ∷ 13 when (d && b) ∷ []) ≡ cond d (13 when b) (12 when a)
+ends-by true a true = refl
+ends-by true a false = refl
+ends-by false true b = refl
+ends-by false false b = refl
 
-last-13 : (b : Bool) → firstApplying (13 when b ∷ []) ≡ 13 when b
-last-13 true = refl
-last-13 false = refl
+-- the promise, over equal parts
+adds-as : {n k : ℕ} {z next done : Set} {s with put : List ℕ} {r : SetAnswer} {after : List ℕ}
+    → n ≡ k → next ≡ done → with ≡ put → Adds k z done s put r after → Adds n z next s with r after
+adds-as e f g a = rw (e, f, g) a
 
 module _ (z : Set) (s p : List ℕ) where
-  pub keep-off : z .discarding ≡ false → discards z s p ≡ false
-  keep-off e = rw e
-
-  pub keep-new : foundIn z s p ≡ Nothing → discards z s p ≡ false
-  keep-new e = rw e (and-false (z .discarding))
-
-  pub drop-found : {k : Logical} {f : Flip} → z .discarding ≡ true → foundIn z s p ≡ At k f → discards z s p ≡ true
-  drop-found e g = ap (λ (b : Bool). b && isFound (foundIn z s p)) e ∙ ap (λ (x : Found). true && isFound x) g
-
-  abbrev ends : Bool
-  ends = leb (roomIn z (length s)) (z .stored)
-
-  abbrev full : Bool
-  full = eqb (z .discarded) 4294967295
-
-  abbrev put : List ℕ
-  put = sets s (z .stored * area z) (cutTo (z .depth) p)
-
   abbrev looks : ℕ
   looks = lookSays z (length s) (length p)
 
-  -- refused by the checks of a look-up
-  pub add-refused : (n : ℕ) → n ≡ looks → (n ≡ 0 → ⊥) → n ≡ addSays z s p
-  unfolding addSays
-  add-refused n e h = first-given n (12 when (not (discards z s p) && ends) ∷ 13 when (discards z s p && full) ∷ []) e h
+  abbrev room : ℕ
+  room = roomIn z (length s)
 
-  module _ (fine : looks ≡ 0) where
-    says-rest : addSays z s p ≡ firstApplying (12 when (not (discards z s p) && ends) ∷ 13 when (discards z s p && full) ∷ [])
-    unfolding addSays
-    says-rest = next-given (12 when (not (discards z s p) && ends) ∷ 13 when (discards z s p && full) ∷ []) fine
+  abbrev gone : Bool
+  gone = discards z (foundIn z s p)
 
-    pub keep-says : discards z s p ≡ false → addSays z s p ≡ 12 when ends
-    keep-says e = says-rest ∙ ap (λ (b : Bool). firstApplying (12 when (not b && ends) ∷ 13 when (b && full) ∷ [])) e ∙ last-12 ends
+  pub discards-off : z .discarding ≡ false → gone ≡ false
+  discards-off e = ap (λ (b : Bool). b && isFound (foundIn z s p)) e
 
-    pub discard-says : discards z s p ≡ true → addSays z s p ≡ 13 when full
-    discard-says e = says-rest ∙ ap (λ (b : Bool). firstApplying (12 when (not b && ends) ∷ 13 when (b && full) ∷ [])) e ∙ last-13 full
+  pub discards-new : foundIn z s p ≡ Nothing → gone ≡ false
+  discards-new e = ap (λ (x : Found). discards z x) e ∙ and-false (z .discarding)
 
-  pub keep-set : discards z s p ≡ false → added z s p ≡ oneStored z
-  unfolding added
-  keep-set e = ap (λ (b : Bool). cond b (oneDiscarded z) (oneStored z)) e
+  pub discards-found : z .discarding ≡ true → isFound (foundIn z s p) ≡ true → gone ≡ true
+  discards-found e f = ap (λ (b : Bool). b && isFound (foundIn z s p)) e ∙ f
 
-  pub discard-set : discards z s p ≡ true → added z s p ≡ oneDiscarded z
-  unfolding added
-  discard-set e = ap (λ (b : Bool). cond b (oneDiscarded z) (oneStored z)) e
+  -- first the checks of a look-up, then the last two
+  pub says-first : addSays z s p ≡ firstApplying (looks ∷ endChecks z (foundIn z s p) room)
+  unfolding addSays lookSays
+  says-first = first-append (lookChecks z (length s) (length p)) (endChecks z (foundIn z s p) room)
 
-  pub keep-store : discards z s p ≡ false → storeWith z s p ≡ put
-  unfolding storeWith
-  keep-store e = ap (λ (b : Bool). cond b s put) e
+  module _ (d : Bool) (e : gone ≡ d) where
+    pub add-says : looks ≡ 0 → addSays z s p ≡ cond d (13 when counterFull z) (12 when noRoom z room)
+    add-says fine =
+        says-first ∙ next-given (endChecks z (foundIn z s p) room) fine ∙ ends-by gone (noRoom z room) (counterFull z)
+        ∙ ap (λ (b : Bool). cond b (13 when counterFull z) (12 when noRoom z room)) e
 
-  pub discard-store : discards z s p ≡ true → storeWith z s p ≡ s
-  unfolding storeWith
-  discard-store e = ap (λ (b : Bool). cond b s put) e
+    pub added-is : added z s p ≡ cond d (oneDiscarded z) (oneStored z)
+    unfolding added
+    added-is = ap (λ (b : Bool). cond b (oneDiscarded z) (oneStored z)) e
+
+    pub with-is : storeWith z s p ≡ cond d s (atEnd z s p)
+    unfolding storeWith
+    with-is = ap (λ (b : Bool). cond b s (atEnd z s p)) e
 
   -- ---- the promise of adding
 
   module _ {r : SetAnswer} {after : List ℕ} where
-    pub refuse-add : (n : ℕ) → n ≡ looks → (n ≡ 0 → ⊥) → r ≡ record { refusal = n; set = z } → after ≡ s → Adds (addSays z s p) z (added z s p) s (storeWith z s p) r after
+    pub refuse-add : (n : ℕ) → n ≡ looks → (n ≡ 0 → ⊥) → r ≡ record { refusal = n; set = z } → after ≡ s → AddsTile z s p r after
     refuse-add n e h a l =
-        let due = add-refused n e h in
+        let due : n ≡ addSays z s p = first-given n (endChecks z (foundIn z s p) room) e h ∙ sym says-first in
         record {
           answer = a ∙ refused-set n (added z s p) z due h;
           lent = l ∙ sym (when-refused (addSays z s p) (storeWith z s p) s (λ q. h (due ∙ q)));
         }
 
-    pub keep-add : looks ≡ 0 → discards z s p ≡ false → Adds (12 when ends) z (oneStored z) s put r after → Adds (addSays z s p) z (added z s p) s (storeWith z s p) r after
-    keep-add fine e k =
-        record {
-          answer = k .answer ∙ ap (λ (n : ℕ). answeredSet n (oneStored z) z) (sym (keep-says fine e)) ∙ ap (λ (x : Set). answeredSet (addSays z s p) x z) (sym (keep-set e));
-          lent = k .lent ∙ ap (λ (n : ℕ). unless n put s) (sym (keep-says fine e)) ∙ ap (λ (l : List ℕ). unless (addSays z s p) l s) (sym (keep-store e));
-        }
+    pub store-add : looks ≡ 0 → gone ≡ false → Stores z room s p r after → AddsTile z s p r after
+    store-add fine e k = adds-as (add-says false e fine) (added-is false e) (with-is false e) k
 
-    pub drop-add : looks ≡ 0 → discards z s p ≡ true → r ≡ answeredSet (13 when full) (oneDiscarded z) z → after ≡ s → Adds (addSays z s p) z (added z s p) s (storeWith z s p) r after
-    drop-add fine e a l =
-        record {
-          answer = a ∙ ap (λ (n : ℕ). answeredSet n (oneDiscarded z) z) (sym (discard-says fine e)) ∙ ap (λ (x : Set). answeredSet (addSays z s p) x z) (sym (discard-set e));
-          lent = l ∙ sym (either-way (addSays z s p) s) ∙ ap (λ (x : List ℕ). unless (addSays z s p) x s) (sym (discard-store e));
-        }
+    pub discard-add : looks ≡ 0 → gone ≡ true → r ≡ discardAnswer z → after ≡ s → AddsTile z s p r after
+    discard-add fine e a l =
+        adds-as (add-says true e fine) (added-is true e) (with-is true e) (record { answer = a; lent = l ∙ sym (either-way (13 when counterFull z) s) })
 
     -- a tile that is to be stored
-    pub append-full : roomIn z (length s) ≤ z .stored → r ≡ record { refusal = 12; set = z } → after ≡ s → Adds (12 when ends) z (oneStored z) s put r after
-    append-full h a l =
-        let due : 12 ≡ 12 when ends = ap (λ (b : Bool). 12 when b) (sym (le-leb (roomIn z (length s)) (z .stored) h)) in
-        record {
-          answer = a ∙ refused-set 12 (oneStored z) z due (λ e. omega arith);
-          lent = l ∙ sym (when-refused (12 when ends) put s (λ q. let e : _≡_ {A = ℕ} 12 0 = due ∙ q in omega arith));
-        }
+    pub store-full : room ≤ z .stored → r ≡ record { refusal = 12; set = z } → after ≡ s → Stores z room s p r after
+    store-full h a l = rw (le-leb room (z .stored) h) (record { answer = a; lent = l })
 
-    pub append-done : z .stored < roomIn z (length s) → r ≡ record { refusal = 0; set = oneStored z } → after ≡ put → Adds (12 when ends) z (oneStored z) s put r after
-    append-done h a l =
-        let free : 12 when ends ≡ 0 = ap (λ (b : Bool). 12 when b) (lt-leb (roomIn z (length s)) (z .stored) h) in
-        record {
-          answer = a ∙ done-set (oneStored z) z free;
-          lent = l ∙ sym (when-done (12 when ends) put s free);
-        }
+    pub store-done : z .stored < room → r ≡ record { refusal = 0; set = oneStored z } → after ≡ atEnd z s p → Stores z room s p r after
+    store-done h a l = rw (lt-leb room (z .stored) h) (record { answer = a; lent = l })

@@ -20,7 +20,7 @@ use Rattle.tileset.specs.declared.Set.{Set}
 use Rattle.tileset.proofs.Says.{held-0, look-0, room-left}
 use Rattle.tileset.proofs.Sizes.{set-of}
 use Rattle.tileset.proofs.Stores.{length-cut, length-tiles as length-stored, tiles-put}
-use Rattle.tileset.proofs.AddingLaws.{keep-says, discard-says, keep-set, keep-store, discard-set, discard-store}
+use Rattle.tileset.proofs.AddingLaws.{discards-off, says-first, add-says, added-is, with-is}
 use Rattle.tileset.proofs.Keeping.{Every, keep-grows, all-grow}
 
 -- what is kept of some tiles after those of a set
@@ -58,7 +58,7 @@ module _ (z : Set) (s p : List ℕ) (ps : List (List ℕ)) (roomy : Roomy z s (p
   abbrev more : List (List ℕ)
   more = keep (z .discarding) (z .flips) (z .width) (z .height) (setTiles z s) tile
 
-  more-is : more ≡ cond (discards z s p) (setTiles z s) (setTiles z s ++ tile ∷ [])
+  more-is : more ≡ cond (discards z (foundIn z s p)) (setTiles z s) (setTiles z s ++ tile ∷ [])
   unfolding keep foundIn
   more-is = refl
 
@@ -73,7 +73,7 @@ module _ (z : Set) (s p : List ℕ) (ps : List (List ℕ)) (roomy : Roomy z s (p
   others-size : Every (λ q. length q ≡ area z) ps
   others-size i lt = roomy .sizes (suc i) (omega arith)
 
-  module _ (e : discards z s p ≡ false) where
+  module _ (e : discards z (foundIn z s p) ≡ false) where
     more-stored : more ≡ setTiles z s ++ tile ∷ []
     more-stored = more-is ∙ ap (λ (b : Bool). cond b (setTiles z s) (setTiles z s ++ tile ∷ [])) e
 
@@ -92,7 +92,7 @@ module _ (z : Set) (s p : List ℕ) (ps : List (List ℕ)) (roomy : Roomy z s (p
     stores : Step z s p ps (oneStored z) put
     stores =
         record {
-          done = keep-says z s p fine e ∙ ap (λ (b : Bool). 12 when b) (lt-leb (roomIn z (length s)) (z .stored) has-room);
+          done = add-says z s p false e fine ∙ ap (λ (b : Bool). 12 when b) (lt-leb (roomIn z (length s)) (z .stored) has-room);
           same = same-put;
           others = record {
             says = roomy .says;
@@ -103,7 +103,7 @@ module _ (z : Set) (s p : List ℕ) (ps : List (List ℕ)) (roomy : Roomy z s (p
           };
         }
 
-  module _ (e : discards z s p ≡ true) where
+  module _ (e : discards z (foundIn z s p) ≡ true) where
     same-discarded : keptAfter z s (p ∷ ps) ≡ keptAfter (oneDiscarded z) s ps
     same-discarded =
         ap (λ (x : List (List ℕ)). keepAll (z .discarding) (z .flips) (z .width) (z .height) x (map (cutTo (z .depth)) ps))
@@ -112,7 +112,7 @@ module _ (z : Set) (s p : List ℕ) (ps : List (List ℕ)) (roomy : Roomy z s (p
     drops : Step z s p ps (oneDiscarded z) s
     drops =
         record {
-          done = discard-says z s p fine e ∙ ap (λ (b : Bool). 13 when b) (ne-eqb (z .discarded) 4294967295 (λ q. omega (arith, roomy .few)));
+          done = add-says z s p true e fine ∙ ap (λ (b : Bool). 13 when b) (ne-eqb (z .discarded) 4294967295 (λ q. omega (arith, roomy .few)));
           same = same-discarded;
           others = record {
             says = roomy .says;
@@ -127,12 +127,12 @@ module _ (z : Set) (s p : List ℕ) (ps : List (List ℕ)) (roomy : Roomy z s (p
       subst (λ (x : Set). Step z s p ps x (storeAfter z s p)) (sym (when-done (addSays z s p) (added z s p) z (step .done) ∙ a))
       (subst (Step z s p ps next) (sym (when-done (addSays z s p) (storeWith z s p) s (step .done) ∙ b)) step)
 
-  step-case : (b : Bool) → discards z s p ≡ b → Step z s p ps (setAfter z s p) (storeAfter z s p)
-  step-case false e = as-after (oneStored z) put (keep-set z s p e) (keep-store z s p e) (stores e)
-  step-case true e = as-after (oneDiscarded z) s (discard-set z s p e) (discard-store z s p e) (drops e)
+  step-case : (b : Bool) → discards z (foundIn z s p) ≡ b → Step z s p ps (setAfter z s p) (storeAfter z s p)
+  step-case false e = as-after (oneStored z) put (added-is z s p false e) (with-is z s p false e) (stores e)
+  step-case true e = as-after (oneDiscarded z) s (added-is z s p true e) (with-is z s p true e) (drops e)
 
   one-step : Step z s p ps (setAfter z s p) (storeAfter z s p)
-  one-step = step-case (discards z s p) refl
+  one-step = step-case (discards z (foundIn z s p)) refl
 
 -- every add is answered 0, and the set has what is kept of the tiles
 pub all-added : (z : Set) (s : List ℕ) (ps : List (List ℕ)) → Roomy z s ps

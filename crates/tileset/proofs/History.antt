@@ -15,13 +15,13 @@ use Rattle.words.specs.Bytes.{bit}
 use Rattle.words.proofs.Answers.{all-passed, not-given}
 use Rattle.tileset.specs.Sets.{area, roomIn, lookSays}
 use Rattle.tileset.specs.Finding.{cutTo, foundIn, isFound, Looks}
-use Rattle.tileset.specs.Adding.{discards, oneStored, oneDiscarded, addChecks, addSays, added, storeWith}
+use Rattle.tileset.specs.Adding.{discards, oneStored, oneDiscarded, endChecks, addSays, added, storeWith}
 use Rattle.tileset.specs.Matched.{matchesSome, Apart}
 use Rattle.tileset.specs.History.{setAfter, storeAfter, setAtEnd, storeAtEnd, accepted, repeats, setTiles}
 use Rattle.tileset.specs.declared.Set.{Set}
 use Rattle.tileset.proofs.Says.{room-left, looks-of}
 use Rattle.tileset.proofs.Stores.{length-cut, tiles-put}
-use Rattle.tileset.proofs.AddingLaws.{keep-off, keep-says, keep-set, keep-store, discard-set, discard-store}
+use Rattle.tileset.proofs.AddingLaws.{discards-off, says-first, add-says, added-is, with-is}
 use Rattle.tileset.proofs.Matched.{look-some, alike-kept, alike-gone, apart-more}
 
 -- ---- stored + discarded = adds answered 0
@@ -32,7 +32,7 @@ either-sum z false = omega arith
 
 one-sum : (z : Set) (s p : List ℕ) (n : ℕ) → unless n (added z s p) z .stored + unless n (added z s p) z .discarded ≡ z .stored + z .discarded + unless n 1 0
 unfolding added
-one-sum z s p zero = either-sum z (discards z s p)
+one-sum z s p zero = either-sum z (discards z (foundIn z s p))
 one-sum z s p (suc n) = omega arith
 
 pub adds-sum : (z : Set) (s : List ℕ) (ps : List (List ℕ)) → setAtEnd z s ps .stored + setAtEnd z s ps .discarded ≡ z .stored + z .discarded + accepted z s ps
@@ -43,8 +43,7 @@ adds-sum z s (p ∷ ps) = omega (arith, one-sum z s p (addSays z s p), adds-sum 
 
 module _ (z : Set) (s p : List ℕ) (done : addSays z s p ≡ 0) where
   fine : lookSays z (length s) (length p) ≡ 0
-  unfolding addSays
-  fine = all-passed (addChecks z s p) done 0
+  fine = all-passed (lookSays z (length s) (length p) ∷ endChecks z (foundIn z s p) (roomIn z (length s))) (sym (says-first z s p) ∙ done) 0
 
   pub known : Looks z s p
   known = looks-of z s p fine
@@ -56,25 +55,25 @@ module _ (z : Set) (s p : List ℕ) (done : addSays z s p ≡ 0) where
   unfolding foundIn
   found-is = look-some (z .flips) (z .width) (z .height) (setTiles z s) (cutTo (z .depth) p)
 
-  module _ (e : discards z s p ≡ false) where
+  module _ (e : discards z (foundIn z s p) ≡ false) where
     has-room : z .stored < roomIn z (length s)
     has-room =
-        leb-false (roomIn z (length s)) (z .stored) (not-given 11 (leb (roomIn z (length s)) (z .stored)) (sym (keep-says z s p fine e) ∙ done))
+        leb-false (roomIn z (length s)) (z .stored) (not-given 11 (leb (roomIn z (length s)) (z .stored)) (sym (add-says z s p false e fine) ∙ done))
 
     kept-tiles : setTiles (added z s p) (storeWith z s p) ≡ setTiles z s ++ cutTo (z .depth) p ∷ []
     kept-tiles =
         let put = sets s (z .stored * area z) (cutTo (z .depth) p) in
-        ap (λ (x : Set). setTiles x (storeWith z s p)) (keep-set z s p e)
-        ∙ ap (λ (l : List ℕ). setTiles (oneStored z) l) (keep-store z s p e)
+        ap (λ (x : Set). setTiles x (storeWith z s p)) (added-is z s p false e)
+        ∙ ap (λ (l : List ℕ). setTiles (oneStored z) l) (with-is z s p false e)
         ∙ tiles-put (area z) s (cutTo (z .depth) p) (z .stored)
         (room-left (z .limit) (length s) (area z) (z .stored) (mul-pos (known .some) (known .tall)) has-room) tile-long
 
-  gone-tiles : discards z s p ≡ true → setTiles (added z s p) (storeWith z s p) ≡ setTiles z s
+  gone-tiles : discards z (foundIn z s p) ≡ true → setTiles (added z s p) (storeWith z s p) ≡ setTiles z s
   gone-tiles e =
-      ap (λ (x : Set). setTiles x (storeWith z s p)) (discard-set z s p e) ∙ ap (λ (l : List ℕ). setTiles (oneDiscarded z) l) (discard-store z s p e)
+      ap (λ (x : Set). setTiles x (storeWith z s p)) (added-is z s p true e) ∙ ap (λ (l : List ℕ). setTiles (oneDiscarded z) l) (with-is z s p true e)
 
 -- with discarding on, a tile is discarded exactly where it matches a stored one
-discards-is : (z : Set) (s p : List ℕ) → z .discarding ≡ true → discards z s p ≡ matchesSome (z .flips) (z .width) (z .height) (setTiles z s) (cutTo (z .depth) p)
+discards-is : (z : Set) (s p : List ℕ) → z .discarding ≡ true → discards z (foundIn z s p) ≡ matchesSome (z .flips) (z .width) (z .height) (setTiles z s) (cutTo (z .depth) p)
 unfolding foundIn
 discards-is z s p on =
     ap (λ (b : Bool). b && isFound (foundIn z s p)) on ∙ look-some (z .flips) (z .width) (z .height) (setTiles z s) (cutTo (z .depth) p)
@@ -94,12 +93,12 @@ either-settled z false = (refl, refl, refl, refl)
 
 settled : (z : Set) (s p : List ℕ) → Settled z (added z s p)
 unfolding added
-settled z s p = either-settled z (discards z s p)
+settled z s p = either-settled z (discards z (foundIn z s p))
 
 apart-as : (z x : Set) (tiles : List (List ℕ)) → Settled z x → Apart (z .flips) (z .width) (z .height) tiles → Apart (x .flips) (x .width) (x .height) tiles
 apart-as z x tiles q a = rw (q .0, q .1, q .2) a
 
-one-apart : (z : Set) (s p : List ℕ) (b : Bool) → addSays z s p ≡ 0 → z .discarding ≡ true → discards z s p ≡ b → SetApart z s → SetApart (added z s p) (storeWith z s p)
+one-apart : (z : Set) (s p : List ℕ) (b : Bool) → addSays z s p ≡ 0 → z .discarding ≡ true → discards z (foundIn z s p) ≡ b → SetApart z s → SetApart (added z s p) (storeWith z s p)
 one-apart z s p true done on e a =
     apart-as z (added z s p) (setTiles (added z s p) (storeWith z s p)) (settled z s p) (rw (gone-tiles z s p done e) a)
 one-apart z s p false done on e a =
@@ -107,7 +106,7 @@ one-apart z s p false done on e a =
     (rw (kept-tiles z s p done e) (apart-more (z .flips) (z .width) (z .height) (setTiles z s) (cutTo (z .depth) p) (sym (discards-is z s p on) ∙ e) a))
 
 after-apart : (z : Set) (s p : List ℕ) (n : ℕ) → addSays z s p ≡ n → z .discarding ≡ true → SetApart z s → SetApart (unless n (added z s p) z) (unless n (storeWith z s p) s)
-after-apart z s p zero e on a = one-apart z s p (discards z s p) e on refl a
+after-apart z s p zero e on a = one-apart z s p (discards z (foundIn z s p)) e on refl a
 after-apart z s p (suc n) e on a = a
 
 -- kept by an add, refused or not
@@ -142,7 +141,7 @@ module _ (z : Set) (s p : List ℕ) (seen : List (List ℕ)) (done : addSays z s
   abbrev again : Bool
   again = matchesSome (z .flips) (z .width) (z .height) seen tile
 
-  one-sees : (b : Bool) → discards z s p ≡ b → Sees (added z s p) (setTiles (added z s p) (storeWith z s p)) (seen ++ tile ∷ [])
+  one-sees : (b : Bool) → discards z (foundIn z s p) ≡ b → Sees (added z s p) (setTiles (added z s p) (storeWith z s p)) (seen ++ tile ∷ [])
   one-sees true e =
       sees-as z (added z s p) (setTiles (added z s p) (storeWith z s p)) (seen ++ tile ∷ []) (settled z s p)
       (rw (gone-tiles z s p done e) (alike-gone (z .flips) (z .width) (z .height) (known z s p done .some) (setTiles z s) seen tile same (sym (discards-is z s p on) ∙ e)))
@@ -150,23 +149,23 @@ module _ (z : Set) (s p : List ℕ) (seen : List (List ℕ)) (done : addSays z s
       sees-as z (added z s p) (setTiles (added z s p) (storeWith z s p)) (seen ++ tile ∷ []) (settled z s p)
       (rw (kept-tiles z s p done e) (alike-kept (z .flips) (z .width) (z .height) (known z s p done .some) (setTiles z s) seen tile same))
 
-  again-is : discards z s p ≡ again
+  again-is : discards z (foundIn z s p) ≡ again
   again-is = discards-is z s p on ∙ same tile
 
-  one-count : (b : Bool) → discards z s p ≡ b → added z s p .discarded ≡ z .discarded + bit again
-  one-count true e = ap (λ (x : Set). x .discarded) (discard-set z s p e) ∙ ap (λ (b : Bool). z .discarded + bit b) (sym e ∙ again-is)
+  one-count : (b : Bool) → discards z (foundIn z s p) ≡ b → added z s p .discarded ≡ z .discarded + bit again
+  one-count true e = ap (λ (x : Set). x .discarded) (added-is z s p true e) ∙ ap (λ (b : Bool). z .discarded + bit b) (sym e ∙ again-is)
   one-count false e =
       let none : again ≡ false = sym again-is ∙ e in
-      ap (λ (x : Set). x .discarded) (keep-set z s p e) ∙ rw none (omega arith)
+      ap (λ (x : Set). x .discarded) (added-is z s p false e) ∙ rw none (omega arith)
 
 after-sees : (z : Set) (s p : List ℕ) (seen : List (List ℕ)) (n : ℕ) → addSays z s p ≡ n → z .discarding ≡ true → Sees z (setTiles z s) seen
     → Sees (unless n (added z s p) z) (setTiles (unless n (added z s p) z) (unless n (storeWith z s p) s)) (unless n (seen ++ cutTo (z .depth) p ∷ []) seen)
-after-sees z s p seen zero e on same = one-sees z s p seen e on same (discards z s p) refl
+after-sees z s p seen zero e on same = one-sees z s p seen e on same (discards z (foundIn z s p)) refl
 after-sees z s p seen (suc n) e on same = same
 
 after-count : (z : Set) (s p : List ℕ) (seen : List (List ℕ)) (n : ℕ) → addSays z s p ≡ n → z .discarding ≡ true → Sees z (setTiles z s) seen
     → unless n (added z s p) z .discarded ≡ z .discarded + unless n (bit (matchesSome (z .flips) (z .width) (z .height) seen (cutTo (z .depth) p))) 0
-after-count z s p seen zero e on same = one-count z s p seen e on same (discards z s p) refl
+after-count z s p seen zero e on same = one-count z s p seen e on same (discards z (foundIn z s p)) refl
 after-count z s p seen (suc n) e on same = omega arith
 
 seen-repeats : (z : Set) (s : List ℕ) (seen ps : List (List ℕ)) → z .discarding ≡ true → Sees z (setTiles z s) seen
@@ -187,7 +186,7 @@ adds-repeats z s ps on = seen-repeats z s (setTiles z s) ps on (λ u. refl)
 -- ---- with discarding off nothing is discarded
 
 off-count : (z : Set) (s p : List ℕ) (n : ℕ) → z .discarding ≡ false → unless n (added z s p) z .discarded ≡ z .discarded
-off-count z s p zero off = ap (λ (x : Set). x .discarded) (keep-set z s p (keep-off z s p off))
+off-count z s p zero off = ap (λ (x : Set). x .discarded) (added-is z s p false (discards-off z s p off))
 off-count z s p (suc n) off = refl
 
 pub adds-off : (z : Set) (s : List ℕ) (ps : List (List ℕ)) → z .discarding ≡ false → setAtEnd z s ps .discarded ≡ z .discarded

@@ -1,16 +1,17 @@
 -- Refused, stored or discarded.
-use mathlib.Core.Path.{_≡_, refl, sym, _∙_}
+use mathlib.Core.Path.{_≡_, refl, sym, ap, _∙_}
 use lib.ListN.{length}
 use denote.Ref.{now}
 use borrow.Author.Tests.{not-true, not-false}
 use borrow.Author.Needs.{needs}
 use Rattle.tileset.specs.Sets.{lookSays}
+use Rattle.tileset.specs.Finding.{isFound}
 use Rattle.tileset.proofs.Says.{looks-of}
-use Rattle.tileset.proofs.AddingLaws.{keep-off, keep-new, drop-found, refuse-add, keep-add, drop-add}
+use Rattle.tileset.proofs.AddingLaws.{discards-off, discards-new, discards-found, refuse-add, store-add, discard-add}
 use Rattle.tileset.proofs.adding.add.Statement.{statement}
 use Rattle.tileset.proofs.adding.add.Tie as tie
 
-fine : (c : tie.Else1) → lookSays (c .before .before .before .before .args .set) (length (now (c .before .before .before .before .args .store))) (length (now (c .before .before .before .before .args .pixels))) ≡ 0
+fine : (c : tie.Else1) → let a = c .before .before .before .before .args in lookSays (a .set) (length (now (a .store))) (length (now (a .pixels))) ≡ 0
 fine c = sym (c .before .look-says .ensures) ∙ c .if1 .left
 
 look-says-requires : tie.Need-look-says-requires
@@ -29,8 +30,11 @@ same-length c = search needs
 
 returns-2 : tie.Need-returns-2
 returns-2 c =
-    let a = c .before .before .before .before .before .before .before .before .before .before .args in
-    keep-add (a .set) (now (a .store)) (now (a .pixels)) (fine (c .before .before .before .before .before .before)) (keep-off (a .set) _ _ (not-true (a .set .discarding) (c .before .before .before .before .if2 .taken))) (c .before .before .append .ensures)
+    let off = c .before .before .before .before in
+    let first = off .before .before in
+    let a = first .before .before .before .before .args in
+    store-add (a .set) (now (a .store)) (now (a .pixels)) (fine first)
+    (discards-off (a .set) _ _ (not-true (a .set .discarding) (off .if2 .taken))) (c .before .before .append .ensures)
 
 found-in-requires : tie.Need-found-in-requires
 found-in-requires c κs = looks-of _ _ _ (fine (c .before .before .before))
@@ -49,8 +53,12 @@ same-length-2 c = search needs
 
 returns-3 : tie.Need-returns-3
 returns-3 c =
-    let a = c .before .before .before .before .before .before .before .before .before .before .before .before .before .before .args in
-    keep-add (a .set) (now (a .store)) (now (a .pixels)) (fine (c .before .before .before .before .before .before .before .before .before .before)) (keep-new (a .set) _ _ (sym (c .before .before .before .before .before .before .found-in .ensures) ∙ c .before .before .before .before .enum-told2 .given .1)) (c .before .before .append2 .ensures)
+    let told = c .before .before .before .before in
+    let looked = told .before .before in
+    let first = looked .before .before .before .before in
+    let a = first .before .before .before .before .args in
+    store-add (a .set) (now (a .store)) (now (a .pixels)) (fine first)
+    (discards-new (a .set) _ _ (sym (looked .found-in .ensures) ∙ told .enum-told2 .given .1)) (c .before .before .append2 .ensures)
 
 discard-requires : tie.Need-discard-requires
 discard-requires c κs = search needs
@@ -60,9 +68,13 @@ same-length-3 c = search needs
 
 returns-4 : tie.Need-returns-4
 returns-4 c =
-    let a = c .before .before .before .before .before .before .before .before .before .before .before .args in
-    drop-add (a .set) (now (a .store)) (now (a .pixels)) (fine (c .before .before .before .before .before .before .before))
-    (drop-found (a .set) _ _ (not-false (a .set .discarding) (c .before .before .before .before .before .if2 .left)) (sym (c .before .before .before .found-in .ensures) ∙ c .before .enum-told .given .1)) (c .discard .ensures) refl
+    let looked = c .before .before .before in
+    let on = looked .before .before in
+    let first = on .before .before in
+    let a = first .before .before .before .before .args in
+    discard-add (a .set) (now (a .store)) (now (a .pixels)) (fine first)
+    (discards-found (a .set) _ _ (not-false (a .set .discarding) (on .if2 .left)) (ap isFound (sym (looked .found-in .ensures) ∙ c .before .enum-told .given .1)))
+    (c .discard .ensures) refl
 
 pub add-spec : {M : Type 1} → statement M
 add-spec =

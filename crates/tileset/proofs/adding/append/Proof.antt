@@ -10,23 +10,27 @@ use borrow.Author.Needs.{needs}
 use Rattle.tileset.specs.Sets.{setRoom, roomIn}
 use Rattle.tileset.specs.Finding.{cutTo}
 use Rattle.tileset.proofs.Says.{room-left}
-use Rattle.tileset.proofs.AddingLaws.{append-full, append-done}
+use Rattle.tileset.proofs.AddingLaws.{store-full, store-done}
 use Rattle.tileset.proofs.adding.append.Statement.{statement}
 use Rattle.tileset.proofs.adding.append.Tie as tie
 
 -- the room is the set's, and there is some for the tile
-room-is : (c : tie.After-room) → c .room .result ≡ roomIn (c .before .before .before .before .args .set) (length (now (c .before .before .before .before .args .store)))
+room-is : (c : tie.After-room) → let a = c .before .before .before .before .args in c .room .result ≡ roomIn (a .set) (length (now (a .store)))
 room-is c =
-    let a = c .before .before .before .before .args in
-    c .room .ensures ∙ ap (λ (n : ℕ). setRoom (a .set .limit) (length (now (a .store)) / n)) (c .before .before .before .before .pre .whole)
+    let start = c .before .before .before .before in
+    let a = start .args in
+    c .room .ensures ∙ ap (λ (n : ℕ). setRoom (a .set .limit) (length (now (a .store)) / n)) (start .pre .whole)
 
 some-pixels : (c : tie.Start) → 0 < length (now (c .args .pixels))
 some-pixels c = rw (c .pre .whole) (mul-pos (c .pre .some) (c .pre .tall))
 
-fits : (c : tie.After-put-cut-arg) → c .before .before .before .before .before .before .args .set .stored * length (now (c .before .before .before .before .before .before .args .pixels)) + length (now (c .before .before .before .before .before .before .args .pixels)) ≤ length (now (c .before .before .before .before .before .before .args .store))
+fits : (c : tie.After-put-cut-arg) → let a = c .before .before .before .before .before .before .args in
+    a .set .stored * length (now (a .pixels)) + length (now (a .pixels)) ≤ length (now (a .store))
 fits c =
-    let a = c .before .before .before .before .before .before .args in
-    room-left (a .set .limit) (length (now (a .store))) (length (now (a .pixels))) (a .set .stored) (some-pixels (c .before .before .before .before .before .before)) (omega (arith, c .before .before .room .ensures, c .before .if1 .left))
+    let start = c .before .before .before .before .before .before in
+    let a = start .args in
+    room-left (a .set .limit) (length (now (a .store))) (length (now (a .pixels))) (a .set .stored) (some-pixels start)
+    (omega (arith, c .before .before .room .ensures, c .before .if1 .left))
 
 cast-count : tie.Need-cast-count
 cast-count c = search needs
@@ -40,7 +44,7 @@ room-requires c κs = search needs
 returns : tie.Need-returns
 returns c =
     let a = c .before .before .before .before .before .args in
-    append-full (a .set) (now (a .store)) (now (a .pixels)) (omega (arith, room-is (c .before), c .if1 .taken)) refl refl
+    store-full (a .set) (now (a .store)) (now (a .pixels)) (omega (arith, room-is (c .before), c .if1 .taken)) refl refl
 
 mul-put-cut : tie.Need-mul-put-cut
 mul-put-cut c = omega (arith, fits c)
@@ -56,9 +60,12 @@ same-length c = search needs
 
 returns-2 : tie.Need-returns-2
 returns-2 c =
-    let a = c .before .before .before .before .before .before .before .before .before .before .args in
-    append-done (a .set) (now (a .store)) (now (a .pixels)) (omega (arith, room-is (c .before .before .before .before .before .before), c .before .before .before .before .before .if1 .left)) refl
-    (c .before .before .before .put-cut .ensures ∙ ap (λ (n : ℕ). sets (now (a .store)) (a .set .stored * n) (cutTo (a .set .depth) (now (a .pixels)))) (c .before .before .before .before .before .before .before .before .before .before .pre .whole))
+    let put = c .before .before .before in
+    let room = put .before .before .before in
+    let start = room .before .before .before .before in
+    let a = start .args in
+    store-done (a .set) (now (a .store)) (now (a .pixels)) (omega (arith, room-is room, put .before .before .if1 .left)) refl
+    (put .put-cut .ensures ∙ ap (λ (n : ℕ). sets (now (a .store)) (a .set .stored * n) (cutTo (a .set .depth) (now (a .pixels)))) (start .pre .whole))
 
 pub append-spec : {M : Type 1} → statement M
 append-spec =
