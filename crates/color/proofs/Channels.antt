@@ -5,11 +5,12 @@ use mathlib.Core.Bool.{Bool}
 use Prim.Native.Nat.{ℕ, _+_, _*_, _-_, _^_, _<_, _≤_}
 use native.Mathlib.Omega.{arith}
 use lib.Dec.{T, eqb, eqb→eq}
+use Rattle.words.specs.Fields.{bitsFor}
 use Rattle.words.specs.Loops.{all}
 use Rattle.words.proofs.Loops.{all-at}
 use Rattle.mode.specs.Table.{row}
 use Rattle.color.specs.Channel.{reduced, again, scaledUp, copies}
-use Rattle.color.specs.Places.{placed}
+use Rattle.color.specs.Color.{coloring}
 use Rattle.color.specs.declared.Rounding.{Rounding}
 use Rattle.color.specs.declared.Rounding.the-variants.{Truncate, Nearest}
 
@@ -17,11 +18,11 @@ use Rattle.color.specs.declared.Rounding.the-variants.{Truncate, Nearest
 every : (f : ℕ → ℕ → Bool) → T (all 16 (λ m. all (row m .top + 1) (f m))) → (m : ℕ) → m < 16 → (v : ℕ) → v ≤ row m .top → T (f m v)
 every f t m h v le = all-at (row m .top + 1) (f m) (all-at 16 (λ k. all (row k .top + 1) (f k)) t m h) v (omega arith)
 
-pub copies-right : (m : ℕ) → m < 16 → (v : ℕ) → v ≤ row m .top → copies (placed m .bits) (v * 2 ^ (8 - placed m .bits)) ≡ scaledUp (row m .top) v
-unfolding placed row scaledUp again
+pub copies-right : (m : ℕ) → m < 16 → (v : ℕ) → v ≤ row m .top → copies (bitsFor 0 (coloring m .fields)) (v * 2 ^ (8 - bitsFor 0 (coloring m .fields))) ≡ scaledUp (row m .top) v
+unfolding coloring row scaledUp again
 copies-right m h v le =
-    eqb→eq (copies (placed m .bits) (v * 2 ^ (8 - placed m .bits))) (scaledUp (row m .top) v)
-    (every (λ k w. eqb (copies (placed k .bits) (w * 2 ^ (8 - placed k .bits))) (scaledUp (row k .top) w)) tt m h v le)
+    eqb→eq (copies (bitsFor 0 (coloring m .fields)) (v * 2 ^ (8 - bitsFor 0 (coloring m .fields)))) (scaledUp (row m .top) v)
+    (every (λ k w. eqb (copies (bitsFor 0 (coloring k .fields)) (w * 2 ^ (8 - bitsFor 0 (coloring k .fields)))) (scaledUp (row k .top) w)) tt m h v le)
 
 undone : Rounding → ℕ → ℕ → Bool
 undone how m v = eqb (reduced how (row m .top) (scaledUp (row m .top) v)) v

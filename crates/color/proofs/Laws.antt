@@ -14,11 +14,11 @@ use Rattle.words.proofs.Answers.{all-passed, not-given}
 use Rattle.mode.specs.Table.{row, ngp}
 use Rattle.color.specs.Color.{Returning, coloring, packSays, packed, unpackSays, valuesIn, unpacked}
 use Rattle.color.specs.Channel.{reduced, scaledUp, scaleSays}
-use Rattle.color.specs.Places.{layoutOf}
+use Rattle.color.specs.Inner.{placesOf}
 use Rattle.color.specs.declared.Rounding.{Rounding}
 use Rattle.color.specs.declared.Rounding.the-variants.{Nearest}
-use Rattle.color.proofs.Packing.{packs, pack-by-layout, length-packed}
-use Rattle.color.proofs.Unpacking.{unpacks, readable-right, unpack-by-layout}
+use Rattle.color.proofs.Packing.{packs, pack-by-places, length-packed}
+use Rattle.color.proofs.Unpacking.{unpacks, readable-right, unpack-by-places}
 use Rattle.color.proofs.Channels.{component-back}
 use Rattle.color.proofs.Trips.{pack-mode, unpack-mode, back-case, again-either, count-case, accepted}
 
@@ -26,14 +26,14 @@ use Rattle.color.proofs.Trips.{pack-mode, unpack-mode, back-case, again
 pub colors-return : (m : ℕ) (cs : List ℕ) (space : ℕ) → packSays m cs space ≡ 0 → Returning m cs → unpacked m (packed m cs) ≡ cs
 colors-return m cs space e r =
     let h = pack-mode m cs space e in
-    back-case m h cs space (packs (layoutOf m) cs space (sym (pack-by-layout m cs space h) ∙ e)) r (coloring m .four) refl
+    back-case m h cs space (packs (placesOf m) cs space (sym (pack-by-places m cs space h) ∙ e)) r (coloring m .four) refl
 
 -- "Bytes return where unused bits are 0."
 pub bytes-return : (m : ℕ) (bs : List ℕ) (space : ℕ) → unpackSays m (length bs) space ≡ 0 → T (areBytes bs)
     → ((i : ℕ) → i < length bs / coloring m .size → getD (valuesIn m bs i) 5 0 ≡ 0) → packed m (unpacked m bs) ≡ bs
 bytes-return m bs space e b clear =
     let h = unpack-mode m (length bs) space e in
-    let u = unpacks (layoutOf m) (length bs) space (sym (unpack-by-layout m (length bs) space h) ∙ e) in
+    let u = unpacks (placesOf m) (length bs) space (sym (unpack-by-places m (length bs) space h) ∙ e) in
     again-either m h bs (readable-right m h (length bs) ∙ u .whole) b clear (coloring m .four) refl
 
 -- "For ngp only where there are four": nothing else is refused but a buffer too short.
@@ -43,7 +43,7 @@ unfolding unpackSays
 unpack-packed m cs space e free =
     let h = pack-mode m cs space e in
     let le : m ≤ 15 = omega arith in
-    let p = packs (layoutOf m) cs space (sym (pack-by-layout m cs space h) ∙ e) in
+    let p = packs (placesOf m) cs space (sym (pack-by-places m cs space h) ∙ e) in
     rw (le-ltb 15 m le, count-case m h cs space p (coloring m .four) refl, length-packed m cs, accepted m h (length cs) (p .whole))
 
 -- "255 x result differs from value x m by at most 127."

@@ -19,10 +19,10 @@ use Rattle.words.proofs.Fields.{Held}
 use Rattle.words.proofs.Loops.{all-at, length-each}
 use Rattle.mode.specs.Table.{row}
 use Rattle.color.specs.Color.{Coloring, coloring, above, packable, packedSize, packSays, valuesOf, fourValues, bytesWith, packed}
-use Rattle.color.specs.Places.{layoutOf, packChecks, colorWord, fourWord, colorBytes, AllWithin}
-use Rattle.color.specs.declared.Layout.{Layout}
+use Rattle.color.specs.Inner.{placesOf, placedPackSays, colorWord, fourWord, colorBytes, AllWithin}
+use Rattle.color.specs.declared.ColorPlaces.{ColorPlaces}
 use Rattle.words.proofs.Items.{neither-left, neither-right, none-at, each-eq}
-use Rattle.color.proofs.Places.{joined}
+use Rattle.color.proofs.Places.{has, joined}
 
 -- what a component that is not above the top is
 module _ (top : ℕ) (cs : List ℕ) (i : ℕ) (low : above top cs i ≡ false) where
@@ -41,10 +41,6 @@ module _ (top : ℕ) (cs : List ℕ) (i : ℕ) (low : above top cs i ≡ false) 
 -- of n colours that are within, the red of each
 pub red-within : (top : ℕ) (cs : List ℕ) (n : ℕ) → AllWithin top cs n → (i : ℕ) → i < n → getD cs (4 * i) 0 ≤ top
 red-within top cs n w i lt = red-low top cs i (none-at n (above top cs) (w .low) i lt)
-
--- which values a mode's words have: three components, one gray, or four
-abbrev pub has : Coloring → ℕ → Bool
-has c k = cond (c .four) (ltb k 4) (cond (c .gray) (ltb k 1) (ltb k 3))
 
 -- the bits of each hold every number up to the top
 pub width : (m : ℕ) → m < 16 → (k : ℕ) → k < 5 → 2 ^ bitsFor k (coloring m .fields) ≡ cond (has (coloring m) k) (row m .top + 1) 1
@@ -87,13 +83,13 @@ module _ (m : ℕ) (h : m < 16) (cs : List ℕ) where
     pub values-held : Held (coloring m .fields) (valuesOf m cs i)
     values-held = values-case (coloring m .gray) refl
 
-    word-case : (b : Bool) → coloring m .gray ≡ b → colorWord (layoutOf m) cs i ≡ join (coloring m .fields) (valuesOf m cs i)
+    word-case : (b : Bool) → coloring m .gray ≡ b → colorWord (placesOf m) cs i ≡ join (coloring m .fields) (valuesOf m cs i)
     word-case true e =
         rw e (joined m h (row m .top - getD cs (4 * i) 0) 0 0 0 (rw e at values-held))
     word-case false e =
         rw e (joined m h (getD cs (4 * i) 0) (getD cs (4 * i + 1) 0) (getD cs (4 * i + 2) 0) 0 (rw e at values-held))
 
-    color-bytes : colorBytes (layoutOf m) cs i ≡ bytesWith m (valuesOf m cs i)
+    color-bytes : colorBytes (placesOf m) cs i ≡ bytesWith m (valuesOf m cs i)
     color-bytes = ap (λ (w : ℕ). bytesOf (coloring m .size) (coloring m .most) w) (word-case (coloring m .gray) refl)
 
   -- so are four
@@ -106,15 +102,15 @@ module _ (m : ℕ) (h : m < 16) (cs : List ℕ) where
         held (coloring m .fields) (row m .top - getD cs 0 0) (row m .top - getD cs 4 0) (row m .top - getD cs 8 0) (row m .top - getD cs 12 0)
         (four-width 0 (omega arith) (getD cs 0 0)) (four-width 1 (omega arith) (getD cs 4 0)) (four-width 2 (omega arith) (getD cs 8 0)) (four-width 3 (omega arith) (getD cs 12 0))
 
-    pub packed-four : bytesOf (coloring m .size) (coloring m .most) (fourWord (layoutOf m) cs) ≡ packed m cs
+    pub packed-four : bytesOf (coloring m .size) (coloring m .most) (fourWord (placesOf m) cs) ≡ packed m cs
     packed-four =
         rw (packed-all m cs many)
         (ap (λ (w : ℕ). bytesOf (coloring m .size) (coloring m .most) w) (joined m h (row m .top - getD cs 0 0) (row m .top - getD cs 4 0) (row m .top - getD cs 8 0) (row m .top - getD cs 12 0) four-held))
 
-  pub packed-words : coloring m .four ≡ false → some (length cs / 4) (above (row m .top) cs) ≡ false → each (length cs / 4) (colorBytes (layoutOf m) cs) ≡ packed m cs
+  pub packed-words : coloring m .four ≡ false → some (length cs / 4) (above (row m .top) cs) ≡ false → each (length cs / 4) (colorBytes (placesOf m) cs) ≡ packed m cs
   packed-words one low =
       rw (packed-one m cs one)
-      (each-eq (length cs / 4) (colorBytes (layoutOf m) cs) (λ i. bytesWith m (valuesOf m cs i)) (λ i lt. color-bytes one i (none-at (length cs / 4) (above (row m .top) cs) low i lt)))
+      (each-eq (length cs / 4) (colorBytes (placesOf m) cs) (λ i. bytesWith m (valuesOf m cs i)) (λ i lt. color-bytes one i (none-at (length cs / 4) (above (row m .top) cs) low i lt)))
 
 -- how many bytes there are
 length-case : (m : ℕ) (cs : List ℕ) (b : Bool) → coloring m .four ≡ b → length (packed m cs) ≡ packedSize (coloring m .four) (coloring m .size) (length cs)
@@ -125,25 +121,25 @@ length-case m cs false e =
 pub length-packed : (m : ℕ) (cs : List ℕ) → length (packed m cs) ≡ packedSize (coloring m .four) (coloring m .size) (length cs)
 length-packed m cs = length-case m cs (coloring m .four) refl
 
--- the checks that go by the layout are those that go by the mode
+-- the checks that go by the places are those that go by the mode
 pub pack-no-mode : (m : ℕ) (cs : List ℕ) (space : ℕ) → 15 < m → packSays m cs space ≡ 1
 unfolding packSays
 pack-no-mode m cs space h = rw (lt-ltb 15 m h)
 
-pub pack-by-layout : (m : ℕ) (cs : List ℕ) (space : ℕ) → m < 16 → packSays m cs space ≡ packChecks (layoutOf m) cs space
-unfolding packSays packChecks
-pack-by-layout m cs space h =
+pub pack-by-places : (m : ℕ) (cs : List ℕ) (space : ℕ) → m < 16 → packSays m cs space ≡ placedPackSays (placesOf m) cs space
+unfolding packSays placedPackSays
+pack-by-places m cs space h =
     let le : m ≤ 15 = omega arith in
     rw (le-ltb 15 m le)
 
 -- what no refusal says
-pub record Packs (l : Layout) (cs : List ℕ) (space : ℕ) : Type 0 where
+pub record Packs (l : ColorPlaces) (cs : List ℕ) (space : ℕ) : Type 0 where
   pub whole : packable (l .four) (length cs) ≡ true
   pub low : some (length cs / 4) (above (l .top) cs) ≡ false
   pub fits : packedSize (l .four) (l .size) (length cs) ≤ space
 
-pub packs : (l : Layout) (cs : List ℕ) (space : ℕ) → packChecks l cs space ≡ 0 → Packs l cs space
-unfolding packChecks
+pub packs : (l : ColorPlaces) (cs : List ℕ) (space : ℕ) → placedPackSays l cs space ≡ 0 → Packs l cs space
+unfolding placedPackSays
 packs l cs space e =
     let seven = 7 when not (packable (l .four) (length cs)) in
     let nine = 9 when some (length cs / 4) (above (l .top) cs) in
@@ -156,18 +152,18 @@ packs l cs space e =
     }
 
 -- so the colours of a word of four are there, and so are all
-pub four-within : (l : Layout) (cs : List ℕ) (space : ℕ) → Packs l cs space → l .four ≡ true → AllWithin (l .top) cs 4
+pub four-within : (l : ColorPlaces) (cs : List ℕ) (space : ℕ) → Packs l cs space → l .four ≡ true → AllWithin (l .top) cs 4
 four-within l cs space p many =
     let all : length cs ≡ 16 = eqb-true (length cs) 16 (rw many at (p .whole)) in
     record { there = omega arith; low = rw all at (p .low) }
 
-pub words-within : (l : Layout) (cs : List ℕ) (space : ℕ) → Packs l cs space → AllWithin (l .top) cs (length cs / 4)
+pub words-within : (l : ColorPlaces) (cs : List ℕ) (space : ℕ) → Packs l cs space → AllWithin (l .top) cs (length cs / 4)
 words-within l cs space p = record { there = omega arith; low = p .low }
 
--- the code's layout is the mode's
-module _ (m : ℕ) (h : m < 16) (cs : List ℕ) (l : Layout) (is : l ≡ layoutOf m) where
-  pub packs-says : (space : ℕ) → packChecks l cs space ≡ packSays m cs space
-  packs-says space = rw is (sym (pack-by-layout m cs space h))
+-- the code's places are the mode's
+module _ (m : ℕ) (h : m < 16) (cs : List ℕ) (l : ColorPlaces) (is : l ≡ placesOf m) where
+  pub packs-says : (space : ℕ) → placedPackSays l cs space ≡ packSays m cs space
+  packs-says space = rw is (sym (pack-by-places m cs space h))
 
   pub packs-size : packedSize (l .four) (l .size) (length cs) ≡ length (packed m cs)
   packs-size = rw is (sym (length-packed m cs))

@@ -1,157 +1,105 @@
--- The code's layouts are document 01's: a word's values stand at their places, mode by mode.
+-- The places that are computed from the fields of document 01 are those of its words: values at their places make the word, and are found there.
 -- Assumes nothing.
-use mathlib.Core.Path.{_≡_, refl}
-use mathlib.Core.Bool.{true, cond}
+use mathlib.Core.Path.{_≡_, refl, sym, ap, _∙_, subst}
+use mathlib.Core.Bool.{Bool, true, false, not, cond, _&&_, _||_}
 use mathlib.Core.List.{[], _∷_, _++_}
-use Prim.Native.Nat.{ℕ, _+_, _^_, _<_}
+use Prim.Native.Nat.{ℕ, _+_, _^_, _<_, _≤_}
+use native.Mathlib.Nat.{div-one}
 use native.Mathlib.Omega.{arith}
-use lib.Dec.{eqb, leb, ltb, leb→le, ltb→lt, eqb→eq, lit<}
-use Rattle.words.specs.Fields.{join, split}
+use lib.Dec.{T, eqb, leb, ltb, leb→le, ltb→lt, eqb→eq, lit<}
+use lib.ListN.{getD}
+use Rattle.words.specs.Fields.{bitsFor, areFields, startOf, join, split}
+use Rattle.words.specs.Loops.{all}
 use Rattle.words.proofs.Fields.{Held}
-use Rattle.words.proofs.Loops.{all-at}
+use Rattle.words.proofs.Loops.{all-at, both-left, both-right}
+use Rattle.words.proofs.Starts.{once, once-found}
 use Rattle.mode.specs.Table.{row}
-use Rattle.mode.proofs.ByMode.{by-mode}
-use Rattle.color.specs.Color.{coloring, colorWith, fourWith, opaque}
-use Rattle.color.specs.Places.{placed, layoutOf, Sound, wordWith, colorFrom, fourFrom}
+use Rattle.mode.proofs.ByMode.{every-mode}
+use Rattle.color.specs.Color.{Coloring, coloring, shade, colorWith, fourWith, opaque}
+use Rattle.color.specs.Inner.{placesOf, Sound, wordWith, valueAt, colorFrom, fourFrom}
 use Rattle.color.specs.Channel.{bitsUpTo}
-use Rattle.color.specs.declared.Layout.{Layout}
+use Rattle.color.specs.declared.ColorPlaces.{ColorPlaces}
 
--- what every mode's layout has
+-- what every mode's places have
 module _ (m : ℕ) (h : m < 16) where
-  sound : Sound (layoutOf m)
-  unfolding coloring placed row
+  sound : Sound (placesOf m)
+  unfolding coloring row
   sound =
+      let bits : ℕ → ℕ = λ k. bitsFor 0 (coloring k .fields) in
+      let start : ℕ → ℕ → ℕ = λ i k. startOf 0 i (coloring k .fields) in
       record {
         some = ltb→lt 0 (coloring m .size) (all-at 16 (λ k. ltb 0 (coloring k .size)) tt m h);
         few = leb→le (coloring m .size) 2 (all-at 16 (λ k. leb (coloring k .size) 2) tt m h);
-        bits = eqb→eq (placed m .bits) (bitsUpTo (row m .top)) (all-at 16 (λ k. eqb (placed k .bits) (bitsUpTo (row k .top))) tt m h);
-        narrow = leb→le (placed m .bits) 5 (all-at 16 (λ k. leb (placed k .bits) 5) tt m h);
-        full = eqb→eq (2 ^ (placed m .bits)) (row m .top + 1) (all-at 16 (λ k. eqb (2 ^ (placed k .bits)) (row k .top + 1)) tt m h);
+        bits = eqb→eq (bits m) (bitsUpTo (row m .top)) (all-at 16 (λ k. eqb (bits k) (bitsUpTo (row k .top))) tt m h);
+        narrow = leb→le (bits m) 5 (all-at 16 (λ k. leb (bits k) 5) tt m h);
+        full = eqb→eq (2 ^ bits m) (row m .top + 1) (all-at 16 (λ k. eqb (2 ^ bits k) (row k .top + 1)) tt m h);
         small = leb→le (row m .top) 31 (all-at 16 (λ k. leb (row k .top) 31) tt m h);
-        first = leb→le (placed m .first) 12 (all-at 16 (λ k. leb (placed k .first) 12) tt m h);
-        second = leb→le (placed m .second) 12 (all-at 16 (λ k. leb (placed k .second) 12) tt m h);
-        third = leb→le (placed m .third) 12 (all-at 16 (λ k. leb (placed k .third) 12) tt m h);
-        fourth = leb→le (placed m .fourth) 12 (all-at 16 (λ k. leb (placed k .fourth) 12) tt m h);
+        first = leb→le (start 0 m) 16 (all-at 16 (λ k. leb (start 0 k) 16) tt m h);
+        second = leb→le (start 1 m) 16 (all-at 16 (λ k. leb (start 1 k) 16) tt m h);
+        third = leb→le (start 2 m) 16 (all-at 16 (λ k. leb (start 2 k) 16) tt m h);
+        fourth = leb→le (start 3 m) 16 (all-at 16 (λ k. leb (start 3 k) 16) tt m h);
       }
 
--- so a layout that is the mode's is sound
-pub with-sound : (m : ℕ) → m < 16 → {l : Layout} → l ≡ layoutOf m → (l ≡ layoutOf m) × Sound l
+-- so places that are the mode's are sound
+pub with-sound : (m : ℕ) → m < 16 → {l : ColorPlaces} → l ≡ placesOf m → (l ≡ placesOf m) × Sound l
 with-sound m h e = (e, rw e (sound m h))
 
 -- values at their places make the word that the fields make
-abbrev Joined : ℕ → Type 0
-Joined m =
-    (a b c d : ℕ) → Held (coloring m .fields) (a ∷ b ∷ c ∷ d ∷ 0 ∷ 0 ∷ []) → wordWith (layoutOf m) a b c d ≡ join (coloring m .fields) (a ∷ b ∷ c ∷ d ∷ 0 ∷ 0 ∷ [])
+module _ (a b c d : ℕ) where
+  pub record Small (m : ℕ) : Type 0 where
+    pub first : a < 2 ^ bitsFor 0 (coloring m .fields)
+    pub second : b < 2 ^ bitsFor 1 (coloring m .fields)
+    pub third : c < 2 ^ bitsFor 2 (coloring m .fields)
+    pub fourth : d < 2 ^ bitsFor 3 (coloring m .fields)
 
-joined-0 : Joined 0
-unfolding coloring placed Held
-joined-0 a b c d h = omega (arith, h 0 (lit< tt), h 1 (lit< tt), h 2 (lit< tt), h 3 (lit< tt))
+  abbrev Joined : ℕ → Type 0
+  Joined m = Small m → wordWith (placesOf m) a b c d ≡ join (coloring m .fields) (a ∷ b ∷ c ∷ d ∷ 0 ∷ 0 ∷ [])
 
-joined-2 : Joined 2
-unfolding coloring placed Held
-joined-2 a b c d h = omega (arith, h 0 (lit< tt), h 1 (lit< tt), h 2 (lit< tt), h 3 (lit< tt))
+  joins : (m : ℕ) → m < 16 → Joined m
+  unfolding coloring
+  joins = every-mode Joined (omega arith)
 
-joined-6 : Joined 6
-unfolding coloring placed Held
-joined-6 a b c d h = omega (arith, h 0 (lit< tt), h 1 (lit< tt), h 2 (lit< tt), h 3 (lit< tt))
+pub joined : (m : ℕ) → m < 16 → (a b c d : ℕ) → Held (coloring m .fields) (a ∷ b ∷ c ∷ d ∷ 0 ∷ 0 ∷ []) → wordWith (placesOf m) a b c d ≡ join (coloring m .fields) (a ∷ b ∷ c ∷ d ∷ 0 ∷ 0 ∷ [])
+unfolding Held
+joined m h a b c d held = joins a b c d m h (record { first = held 0 (lit< tt); second = held 1 (lit< tt); third = held 2 (lit< tt); fourth = held 3 (lit< tt) })
 
-joined-7 : Joined 7
-unfolding coloring placed Held
-joined-7 a b c d h = omega (arith, h 0 (lit< tt), h 1 (lit< tt), h 2 (lit< tt), h 3 (lit< tt))
+-- which values a mode's words have: three components, one gray, or four
+abbrev pub has : Coloring → ℕ → Bool
+has c k = cond (c .four) (ltb k 4) (cond (c .gray) (ltb k 1) (ltb k 3))
 
-joined-8 : Joined 8
-unfolding coloring placed Held
-joined-8 a b c d h = omega (arith, h 0 (lit< tt), h 1 (lit< tt), h 2 (lit< tt), h 3 (lit< tt))
+-- each has one field, and the bits of the first
+abbrev isAt : Coloring → ℕ → Bool
+isAt c k = once k (c .fields) && (not (has c k) || eqb (bitsFor k (c .fields)) (bitsFor 0 (c .fields)))
 
-joined-9 : Joined 9
-unfolding coloring placed Held
-joined-9 a b c d h = omega (arith, h 0 (lit< tt), h 1 (lit< tt), h 2 (lit< tt), h 3 (lit< tt))
+implied : (a b : Bool) → T (not a || b) → a ≡ true → T b
+implied true b t e = t
+implied false b t e = absurd (subst T (sym e) tt)
 
-joined-11 : Joined 11
-unfolding coloring placed Held
-joined-11 a b c d h = omega (arith, h 0 (lit< tt), h 1 (lit< tt), h 2 (lit< tt), h 3 (lit< tt))
+module _ (m : ℕ) (h : m < 16) (w : ℕ) where
+  fields : T (areFields (coloring m .fields))
+  unfolding coloring
+  fields = all-at 16 (λ k. areFields (coloring k .fields)) tt m h
 
-joined-12 : Joined 12
-unfolding coloring placed Held
-joined-12 a b c d h = omega (arith, h 0 (lit< tt), h 1 (lit< tt), h 2 (lit< tt), h 3 (lit< tt))
+  value-found : (k : ℕ) → k < 4 → has (coloring m) k ≡ true → getD (split (coloring m .fields) w) k 0 ≡ valueAt w (startOf 0 k (coloring m .fields)) (bitsFor 0 (coloring m .fields))
+  unfolding coloring
+  value-found k lt e =
+      let c = coloring m in
+      let here : T (isAt c k) = all-at 4 (isAt c) (all-at 16 (λ i. all 4 (isAt (coloring i))) tt m h) k lt in
+      let same : T (eqb (bitsFor k (c .fields)) (bitsFor 0 (c .fields))) = implied (has c k) _ (both-right (once k (c .fields)) _ here) e in
+      rw div-one at (once-found k (omega arith) (c .fields) fields 0 w (both-left (once k (c .fields)) _ here))
+      ∙ ap (λ (n : ℕ). valueAt w (startOf 0 k (c .fields)) n) (eqb→eq (bitsFor k (c .fields)) (bitsFor 0 (c .fields)) same)
 
-joined-13 : Joined 13
-unfolding coloring placed Held
-joined-13 a b c d h = omega (arith, h 0 (lit< tt), h 1 (lit< tt), h 2 (lit< tt), h 3 (lit< tt))
+  -- the colour of a word
+  color-case : (g f : Bool) → coloring m .gray ≡ g → coloring m .four ≡ f → colorWith m (split (coloring m .fields) w) ≡ colorFrom (placesOf m) w
+  color-case true true e f = rw (e, value-found 0 (omega arith) (rw f))
+  color-case true false e f = rw (e, value-found 0 (omega arith) (rw (f, e)))
+  color-case false true e f = rw (e, value-found 0 (omega arith) (rw f), value-found 1 (omega arith) (rw f), value-found 2 (omega arith) (rw f))
+  color-case false false e f = rw (e, value-found 0 (omega arith) (rw (f, e)), value-found 1 (omega arith) (rw (f, e)), value-found 2 (omega arith) (rw (f, e)))
 
-pub joined : (m : ℕ) → m < 16 → Joined m
-unfolding coloring placed
-joined =
-    by-mode Joined joined-0 joined-0 joined-2 joined-0 joined-0 joined-0 joined-6 joined-7 joined-8 joined-9 joined-9 joined-11 joined-12 joined-13 joined-8 joined-8
+  pub found : colorWith m (split (coloring m .fields) w) ≡ colorFrom (placesOf m) w
+  found = color-case (coloring m .gray) (coloring m .four) refl refl
 
--- the colour of a word stands at its places, and so do four
-abbrev Found : ℕ → Type 0
-Found m = (w : ℕ) → colorWith m (split (coloring m .fields) w) ≡ colorFrom (layoutOf m) w
-
-same-color : {a b c d e f : ℕ} → a ≡ d → b ≡ e → c ≡ f → opaque a b c ≡ opaque d e f
-same-color p q r = rw (p, q, r)
-
-found-0 : Found 0
-unfolding coloring placed row
-found-0 w = same-color (omega arith) (omega arith) (omega arith)
-
-found-2 : Found 2
-unfolding coloring placed row
-found-2 w = same-color (omega arith) (omega arith) (omega arith)
-
-found-6 : Found 6
-unfolding coloring placed row
-found-6 w = same-color (omega arith) (omega arith) (omega arith)
-
-found-7 : Found 7
-unfolding coloring placed row
-found-7 w = same-color (omega arith) (omega arith) (omega arith)
-
-found-8 : Found 8
-unfolding coloring placed row
-found-8 w = same-color (omega arith) (omega arith) (omega arith)
-
-found-9 : Found 9
-unfolding coloring placed row
-found-9 w = same-color (omega arith) (omega arith) (omega arith)
-
-found-11 : Found 11
-unfolding coloring placed row
-found-11 w = same-color (omega arith) (omega arith) (omega arith)
-
-found-12 : Found 12
-unfolding coloring placed row
-found-12 w = same-color (omega arith) (omega arith) (omega arith)
-
-found-13 : Found 13
-unfolding coloring placed row
-found-13 w = same-color (omega arith) (omega arith) (omega arith)
-
-pub found : (m : ℕ) → m < 16 → Found m
-unfolding coloring placed row
-found =
-    by-mode Found found-0 found-0 found-2 found-0 found-0 found-0 found-6 found-7 found-8 found-9 found-9 found-11 found-12 found-13 found-8 found-8
-
-abbrev FourFound : ℕ → Type 0
-FourFound m =
-    (w : ℕ) → cond (coloring m .four) (fourWith m (split (coloring m .fields) w)) [] ≡ cond (coloring m .four) (fourFrom (layoutOf m) w) []
-
-same-four : {a b c d e f g h : ℕ} → a ≡ e → b ≡ f → c ≡ g → d ≡ h
-    → (((opaque a a a ++ opaque b b b) ++ opaque c c c) ++ opaque d d d) ≡ (((opaque e e e ++ opaque f f f) ++ opaque g g g) ++ opaque h h h)
-same-four p q r s = rw (p, q, r, s)
-
-four-2 : FourFound 2
-unfolding coloring placed row
-four-2 w = same-four (omega arith) (omega arith) (omega arith) (omega arith)
-
-four-13 : FourFound 13
-unfolding coloring placed row
-four-13 w = same-four (omega arith) (omega arith) (omega arith) (omega arith)
-
-four-found : (m : ℕ) → m < 16 → FourFound m
-unfolding coloring placed row
-four-found =
-    by-mode FourFound (λ w. refl) (λ w. refl) four-2 (λ w. refl) (λ w. refl) (λ w. refl) (λ w. refl) (λ w. refl) (λ w. refl) (λ w. refl) (λ w. refl) (λ w. refl) (λ w. refl) four-13 (λ w. refl) (λ w. refl)
-
-pub found-four : (m : ℕ) → m < 16 → coloring m .four ≡ true → (w : ℕ) → fourWith m (split (coloring m .fields) w) ≡ fourFrom (layoutOf m) w
-found-four m h e w = rw e at (four-found m h w)
+  -- and its four grays
+  pub found-four : coloring m .four ≡ true → fourWith m (split (coloring m .fields) w) ≡ fourFrom (placesOf m) w
+  found-four f =
+      rw (value-found 0 (omega arith) (rw f), value-found 1 (omega arith) (rw f), value-found 2 (omega arith) (rw f), value-found 3 (omega arith) (rw f))

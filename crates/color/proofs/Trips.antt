@@ -19,9 +19,10 @@ use Rattle.words.proofs.Loops.{all-at}
 use Rattle.mode.specs.Table.{row, ngp}
 use Rattle.mode.proofs.ByMode.{by-mode}
 use Rattle.color.specs.Color.{Returning, coloring, above, packable, packSays, valuesOf, fourValues, bytesWith, packed, unpackable, colorCount, unpackSays, valuesIn, shade, colorWith, fourWith, unpacked}
-use Rattle.color.specs.Places.{layoutOf}
+use Rattle.color.specs.Inner.{placesOf}
 use Rattle.words.proofs.Items.{none-at, each-eq, item-inside, item-at, item-getD, whole-parts}
-use Rattle.color.proofs.Packing.{Packs, pack-no-mode, has, width, red-low, values-held, four-held, packed-one, packed-all, length-packed}
+use Rattle.color.proofs.Places.{has}
+use Rattle.color.proofs.Packing.{Packs, pack-no-mode, width, red-low, values-held, four-held, packed-one, packed-all, length-packed}
 use Rattle.color.proofs.Unpacking.{unpack-no-mode, unpacked-one, unpacked-all, length-color, length-unpacked}
 
 -- ---- the fields of each mode
@@ -77,7 +78,7 @@ gray-at m cs (suc (suc zero)) lt = refl
 gray-at m cs (suc (suc (suc zero))) lt = refl
 gray-at m cs (suc (suc (suc (suc i)))) lt = omega arith
 
-module _ (m : ℕ) (h : m < 16) (cs : List ℕ) (space : ℕ) (p : Packs (layoutOf m) cs space) (r : Returning m cs) where
+module _ (m : ℕ) (h : m < 16) (cs : List ℕ) (space : ℕ) (p : Packs (placesOf m) cs space) (r : Returning m cs) where
   module _ (i : ℕ) (lt : i < length cs / 4) where
     red : getD cs (4 * i) 0 ≤ row m .top
     red = red-low (row m .top) cs i (none-at (length cs / 4) (above (row m .top) cs) (p .low) i lt)
@@ -249,7 +250,7 @@ module _ (m : ℕ) (h : m < 16) (bs : List ℕ) (whole : unpackable m (length bs
 -- ---- unpacking what was packed
 
 -- as many bytes as four a colour
-module _ (m : ℕ) (h : m < 16) (cs : List ℕ) (space : ℕ) (p : Packs (layoutOf m) cs space) where
+module _ (m : ℕ) (h : m < 16) (cs : List ℕ) (space : ℕ) (p : Packs (placesOf m) cs space) where
   pub count-case : (b : Bool) → coloring m .four ≡ b → 4 * colorCount (coloring m .four) (coloring m .size) (length (packed m cs)) ≡ length cs
   count-case true e = rw e (sym (eqb-true (length cs) 16 (rw e at (p .whole))))
   count-case false e =

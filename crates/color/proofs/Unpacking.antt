@@ -14,10 +14,10 @@ use Rattle.words.specs.Answers.{_when_, overwrite}
 use Rattle.words.specs.Loops.{each}
 use Rattle.words.proofs.Answers.{all-passed, not-given}
 use Rattle.words.proofs.Loops.{length-each, sets-front, put-next}
-use Rattle.mode.proofs.ByMode.{by-mode}
+use Rattle.mode.proofs.ByMode.{every-mode}
 use Rattle.color.specs.Color.{coloring, unpackable, colorCount, unpackSays, valuesIn, colorWith, fourWith, unpacked}
-use Rattle.color.specs.Places.{layoutOf, readable, unpackChecks, colorFrom, fourFrom, wordFrom}
-use Rattle.color.specs.declared.Layout.{Layout}
+use Rattle.color.specs.Inner.{placesOf, readable, placedUnpackSays, colorFrom, fourFrom, wordFrom}
+use Rattle.color.specs.declared.ColorPlaces.{ColorPlaces}
 use Rattle.words.proofs.Items.{each-eq}
 use Rattle.color.proofs.Places.{found, found-four}
 
@@ -32,13 +32,13 @@ unpacked-all m bs many = rw many
 
 module _ (m : ℕ) (h : m < 16) (bs : List ℕ) where
   pub unpacked-words : coloring m .four ≡ false
-      → each (length bs / coloring m .size) (λ i. colorFrom (layoutOf m) (wordFrom (layoutOf m) bs (i * coloring m .size))) ≡ unpacked m bs
+      → each (length bs / coloring m .size) (λ i. colorFrom (placesOf m) (wordFrom (placesOf m) bs (i * coloring m .size))) ≡ unpacked m bs
   unpacked-words one =
       rw (unpacked-one m bs one)
-      (each-eq (length bs / coloring m .size) (λ i. colorFrom (layoutOf m) (wordFrom (layoutOf m) bs (i * coloring m .size))) (λ i. colorWith m (valuesIn m bs i)) (λ i lt. sym (found m h (wordFrom (layoutOf m) bs (i * coloring m .size)))))
+      (each-eq (length bs / coloring m .size) (λ i. colorFrom (placesOf m) (wordFrom (placesOf m) bs (i * coloring m .size))) (λ i. colorWith m (valuesIn m bs i)) (λ i lt. sym (found m h (wordFrom (placesOf m) bs (i * coloring m .size)))))
 
-  pub unpacked-four : coloring m .four ≡ true → fourFrom (layoutOf m) (wordFrom (layoutOf m) bs 0) ≡ unpacked m bs
-  unpacked-four many = rw (unpacked-all m bs many, zero-mul (coloring m .size)) (sym (found-four m h many (wordFrom (layoutOf m) bs 0)))
+  pub unpacked-four : coloring m .four ≡ true → fourFrom (placesOf m) (wordFrom (placesOf m) bs 0) ≡ unpacked m bs
+  unpacked-four many = rw (unpacked-all m bs many, zero-mul (coloring m .size)) (sym (found-four m h (wordFrom (placesOf m) bs 0) many))
 
 -- four bytes put one by one
 pub put-bytes : (l : List ℕ) (at a b c d : ℕ) → set (set (set (set l at a) (at + 1) b) (at + 2) c) (at + 3) d ≡ sets l at (a ∷ b ∷ c ∷ d ∷ [])
@@ -58,11 +58,11 @@ put-colors l a b c d ha hb hc hd space =
     rw (sets-front l a (omega arith), ha, put-next a b l 4 4 ha hb (omega arith), put-next (a ++ b) c l 8 4 (omega arith) hc (omega arith), put-next ((a ++ b) ++ c) d l 12 4 (omega arith) hd (omega arith), all)
 
 -- a colour has four bytes
-from-length : (l : Layout) (w : ℕ) (b : Bool) → l .gray ≡ b → length (colorFrom l w) ≡ 4
+from-length : (l : ColorPlaces) (w : ℕ) (b : Bool) → l .gray ≡ b → length (colorFrom l w) ≡ 4
 from-length l w true e = rw e
 from-length l w false e = rw e
 
-pub length-from : (l : Layout) (w : ℕ) → length (colorFrom l w) ≡ 4
+pub length-from : (l : ColorPlaces) (w : ℕ) → length (colorFrom l w) ≡ 4
 length-from l w = from-length l w (l .gray) refl
 
 color-length : (m : ℕ) (vs : List ℕ) (b : Bool) → coloring m .gray ≡ b → length (colorWith m vs) ≡ 4
@@ -80,41 +80,40 @@ length-case m bs false e = rw (unpacked-one m bs e, e) (length-each (length bs /
 pub length-unpacked : (m : ℕ) (bs : List ℕ) → length (unpacked m bs) ≡ colorCount (coloring m .four) (coloring m .size) (length bs) * 4
 length-unpacked m bs = length-case m bs (coloring m .four) refl
 
--- the checks that go by the layout are those that go by the mode
+-- the checks that go by the places are those that go by the mode
 pub unpack-no-mode : (m len space : ℕ) → 15 < m → unpackSays m len space ≡ 1
 unfolding unpackSays
 unpack-no-mode m len space h = rw (lt-ltb 15 m h)
 
 -- ngp is the one mode whose words have one gray
-pub readable-right : (m : ℕ) → m < 16 → (len : ℕ) → unpackable m len ≡ readable (layoutOf m) len
+pub readable-right : (m : ℕ) → m < 16 → (len : ℕ) → unpackable m len ≡ readable (placesOf m) len
 unfolding coloring
-readable-right =
-    by-mode (λ m. (len : ℕ) → unpackable m len ≡ readable (layoutOf m) len) (λ len. refl) (λ len. refl) (λ len. refl) (λ len. refl) (λ len. refl) (λ len. refl) (λ len. refl) (λ len. refl) (λ len. refl) (λ len. refl) (λ len. refl) (λ len. refl) (λ len. refl) (λ len. refl) (λ len. refl) (λ len. refl)
+readable-right = every-mode (λ m. (len : ℕ) → unpackable m len ≡ readable (placesOf m) len) (search depth 40)
 
-pub unpack-by-layout : (m len space : ℕ) → m < 16 → unpackSays m len space ≡ unpackChecks (layoutOf m) len space
-unfolding unpackSays unpackChecks
-unpack-by-layout m len space h =
+pub unpack-by-places : (m len space : ℕ) → m < 16 → unpackSays m len space ≡ placedUnpackSays (placesOf m) len space
+unfolding unpackSays placedUnpackSays
+unpack-by-places m len space h =
     let le : m ≤ 15 = omega arith in
     rw (le-ltb 15 m le, readable-right m h len)
 
 -- what no refusal says
-pub record Unpacks (l : Layout) (len space : ℕ) : Type 0 where
+pub record Unpacks (l : ColorPlaces) (len space : ℕ) : Type 0 where
   pub whole : readable l len ≡ true
   pub fits : 4 * colorCount (l .four) (l .size) len ≤ space
 
-pub unpacks : (l : Layout) (len space : ℕ) → unpackChecks l len space ≡ 0 → Unpacks l len space
-unfolding unpackChecks
+pub unpacks : (l : ColorPlaces) (len space : ℕ) → placedUnpackSays l len space ≡ 0 → Unpacks l len space
+unfolding placedUnpackSays
 unpacks l len space e =
     let passed = all-passed (7 when not (readable l len) ∷ 11 when ltb space (4 * colorCount (l .four) (l .size) len) ∷ []) e in
     record { whole = not-false _ (not-given 6 _ (passed 0)); fits = ltb-false _ _ (not-given 10 _ (passed 1)) }
 
-pub four-whole : (l : Layout) (len space : ℕ) → Unpacks l len space → l .four ≡ true → len ≡ l .size
+pub four-whole : (l : ColorPlaces) (len space : ℕ) → Unpacks l len space → l .four ≡ true → len ≡ l .size
 four-whole l len space p many = eqb-true len (l .size) (rw many at (p .whole))
 
--- the code's layout is the mode's
-module _ (m : ℕ) (h : m < 16) (bs : List ℕ) (l : Layout) (is : l ≡ layoutOf m) where
-  pub unpacks-says : (space : ℕ) → unpackChecks l (length bs) space ≡ unpackSays m (length bs) space
-  unpacks-says space = rw is (sym (unpack-by-layout m (length bs) space h))
+-- the code's places are the mode's
+module _ (m : ℕ) (h : m < 16) (bs : List ℕ) (l : ColorPlaces) (is : l ≡ placesOf m) where
+  pub unpacks-says : (space : ℕ) → placedUnpackSays l (length bs) space ≡ unpackSays m (length bs) space
+  unpacks-says space = rw is (sym (unpack-by-places m (length bs) space h))
 
   pub unpacks-size : colorCount (l .four) (l .size) (length bs) * 4 ≡ length (unpacked m bs)
   unpacks-size = rw is (sym (length-unpacked m bs))

@@ -2,7 +2,7 @@
 -- Assumes nothing.
 use Prim.Native.Nat.{ℕ, zero, suc, _+_, _*_, _-_, _/_, _^_}
 use mathlib.Core.Bool.{cond}
-use mathlib.Core.List.{[], _∷_}
+use mathlib.Core.List.{List, [], _∷_, _++_}
 use lib.Dec.{ltb, leb, eqb}
 use Rattle.words.specs.Answers.{_when_, firstApplying}
 use Rattle.mode.specs.Table.{row}
@@ -31,8 +31,14 @@ scaledUp top v = again 4 (bitsUpTo top) v 8
 abbrev pub copies : ℕ → ℕ → ℕ
 copies bits x = x + x / 2 ^ bits + x / 2 ^ (bits + bits) + x / 2 ^ (bits + bits + bits)
 
+abbrev pub modeChecks : ℕ → List ℕ
+modeChecks m = 1 when ltb 15 m ∷ []
+
 abbrev pub modeSays : ℕ → ℕ
-modeSays m = firstApplying (1 when ltb 15 m ∷ [])
+modeSays m = firstApplying (modeChecks m)
+
+abbrev pub scaleChecks : ℕ → ℕ → List ℕ
+scaleChecks m v = modeChecks m ++ 9 when ltb (row m .top) v ∷ []
 
 abbrev pub scaleSays : ℕ → ℕ → ℕ
-scaleSays m v = firstApplying (1 when ltb 15 m ∷ 9 when ltb (row m .top) v ∷ [])
+scaleSays m v = firstApplying (scaleChecks m v)

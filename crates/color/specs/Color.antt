@@ -111,14 +111,16 @@ packable four len = cond four (eqb len 16) (eqb (len % 4) 0)
 abbrev pub packedSize : Bool → ℕ → ℕ → ℕ
 packedSize four size len = cond four size (len / 4 * size)
 
-unfoldable pub packSays : ℕ → List ℕ → ℕ → ℕ
-packSays m cs space =
-    firstApplying
-    (1 when ltb 15 m
+abbrev pub packChecks : ℕ → List ℕ → ℕ → List ℕ
+packChecks m cs space =
+    1 when ltb 15 m
     ∷ 7 when not (packable (coloring m .four) (length cs))
     ∷ 9 when some (length cs / 4) (above (row m .top) cs)
     ∷ 11 when ltb space (packedSize (coloring m .four) (coloring m .size) (length cs))
-    ∷ [])
+    ∷ []
+
+unfoldable pub packSays : ℕ → List ℕ → ℕ → ℕ
+packSays m cs space = firstApplying (packChecks m cs space)
 
 -- ---- unpacking
 
@@ -154,13 +156,15 @@ unpackable m len = cond (coloring m .four) (eqb len (coloring m .size)) (cond (e
 abbrev pub colorCount : Bool → ℕ → ℕ → ℕ
 colorCount four size len = cond four 4 (len / size)
 
-unfoldable pub unpackSays : ℕ → ℕ → ℕ → ℕ
-unpackSays m len space =
-    firstApplying
-    (1 when ltb 15 m
+abbrev pub unpackChecks : ℕ → ℕ → ℕ → List ℕ
+unpackChecks m len space =
+    1 when ltb 15 m
     ∷ 7 when not (unpackable m len)
     ∷ 11 when ltb space (4 * colorCount (coloring m .four) (coloring m .size) len)
-    ∷ [])
+    ∷ []
+
+unfoldable pub unpackSays : ℕ → ℕ → ℕ → ℕ
+unpackSays m len space = firstApplying (unpackChecks m len space)
 
 -- ---- both ways
 

@@ -1,3 +1,3 @@
 pub mod Color
-pub mod Places
+pub mod Inner
 pub mod Channel

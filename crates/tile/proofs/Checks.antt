@@ -12,9 +12,10 @@ use lib.Seq.{sets, take-all}
 use borrow.Author.Tests.{lt-leb, ltb-false, leb-false, eqb-true, not-false, lt-ltb, le-ltb, eq-eqb, ne-eqb}
 use Rattle.words.specs.Answers.{_when_, firstApplying, overwrite}
 use Rattle.words.specs.Loops.{some}
-use Rattle.words.proofs.Answers.{all-passed, not-given}
+use Rattle.words.proofs.Answers.{all-passed, not-given, first-given}
 use Rattle.words.proofs.Items.{none-at}
 use Rattle.words.proofs.Loops.{sets-front}
+use Rattle.words.proofs.Order.{first-append}
 use Rattle.mode.specs.Table.{hasDepth}
 use Rattle.tile.specs.Packings.{layoutIn, pixelCount, byteCount, packedIn, unpackedIn}
 use Rattle.tile.specs.Inner.{Packs, Unpacks}
@@ -26,19 +27,13 @@ use Rattle.tile.proofs.Native.{Native, fitting}
 -- ---- checks after checks: the first number that is given, or what those after say
 
 first-of : (ns ms : List ℕ) → (firstApplying ns ≡ 0 → ⊥) → firstApplying ns ≡ firstApplying (ns ++ ms)
-first-of [] ms h = absurd (h refl)
-first-of (zero ∷ ns) ms h = first-of ns ms h
-first-of (suc n ∷ ns) ms h = refl
+first-of ns ms h = first-given (firstApplying ns) ms refl h ∙ sym (first-append ns ms)
 
 rest-of : (ns ms : List ℕ) → firstApplying ns ≡ 0 → firstApplying (ns ++ ms) ≡ firstApplying ms
-rest-of [] ms z = refl
-rest-of (zero ∷ ns) ms z = rest-of ns ms z
-rest-of (suc n ∷ ns) ms z = absurd (suc-ne-zero n z)
+rest-of ns ms z = first-append ns ms ∙ rw z
 
 all-first : (ns ms : List ℕ) → firstApplying (ns ++ ms) ≡ 0 → firstApplying ns ≡ 0
-all-first [] ms z = refl
-all-first (zero ∷ ns) ms z = all-first ns ms z
-all-first (suc n ∷ ns) ms z = z
+all-first ns ms z = all-passed (firstApplying ns ∷ ms) (sym (first-append ns ms) ∙ z) 0
 
 -- a check that did not apply to what was denied
 passes : (n : ℕ) (b : Bool) → suc n when not b ≡ 0 → b ≡ true

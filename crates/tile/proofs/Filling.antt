@@ -1,13 +1,14 @@
--- The laws of a list by its elements, and of a loop that stores f k at place at + k for each k.
+-- The laws of a list by its elements.
 -- Assumes nothing.
 use mathlib.Core.Path.{_≡_, refl, sym, ap, _∙_}
 use mathlib.Core.List.{List, [], _∷_, _++_}
-use Prim.Native.Nat.{ℕ, zero, suc, _+_, _-_, _≤_, _<_}
+use Prim.Native.Nat.{ℕ, zero, suc, _+_, _≤_, _<_}
 use native.Mathlib.Nat.{le-of-suc-le-suc, not-suc-le-zero, add-zero, add-suc, suc-add, zero-add}
-use native.Mathlib.Numerals.{add-one}
 use native.Mathlib.Omega.{arith}
-use lib.ListN.{length, getD, set, take, drop, length-set, length-drop}
+use lib.ListN.{length, getD, take, drop, length-drop}
 use lib.Seq.{sets, length-take-le}
+use Rattle.words.specs.Loops.{each}
+use Rattle.words.proofs.Filling.{Filled, filled-all}
 use Rattle.tile.specs.Bits.{table}
 
 pub length-table : (n at : ℕ) (f : ℕ → ℕ) → length (table n at f) ≡ n
@@ -27,32 +28,14 @@ unfolding table
 table-more zero at f = ap (λ (k : ℕ). f k ∷ []) (sym (add-zero at))
 table-more (suc n) at f = ap (λ (t : List ℕ). f at ∷ t) (table-more n (suc at) f ∙ ap (λ (k : ℕ). table n (suc at) f ++ f k ∷ []) (suc-add at n ∙ sym (add-suc at n)))
 
-sets-more : (vs l : List ℕ) (i v : ℕ) → set (sets l i vs) (i + length vs) v ≡ sets l i (vs ++ v ∷ [])
-sets-more [] l i v = ap (λ (k : ℕ). set l k v) (add-zero i)
-sets-more (a ∷ vs) l i v =
-    ap (λ (k : ℕ). set (sets (set l i a) (suc i) vs) k v) (add-suc i (length vs) ∙ sym (suc-add i (length vs))) ∙ sets-more vs (set l i a) (suc i) v
-
--- the invariant of such a loop: s is d with f 0, .., f (k - 1) from place at on
-pub record Filled (f : ℕ → ℕ) (d : List ℕ) (at k : ℕ) (s : List ℕ) : Type 0 where
-  pub is : s ≡ sets d at (table k 0 f)
-  pub long : length s ≡ length d
-
-pub filled-none : {f : ℕ → ℕ} {d : List ℕ} {at : ℕ} → Filled f d at 0 d
+-- and so it is its elements, one after the other, as a loop fills a slice with them
+pub table-each : (n : ℕ) (f : ℕ → ℕ) → table n 0 f ≡ each n (λ k. f k ∷ [])
 unfolding table
-filled-none = record { is = refl; long = refl }
+table-each zero f = refl
+table-each (suc n) f = table-more n 0 f ∙ rw (zero-add, table-each n f)
 
-pub filled-more : {f : ℕ → ℕ} {d s : List ℕ} {at k v : ℕ} → Filled f d at k s → v ≡ f k → Filled f d at (k + 1) (set s (at + k) v)
-filled-more {f} {d} {s} {at} {k} {v} h e =
-    let t = table k 0 f in
-    let step : set (sets d at t) (at + length t) v ≡ sets d at (t ++ v ∷ []) = sets-more t d at v in
-    let more : table (k + 1) 0 f ≡ t ++ v ∷ [] = ap (λ (n : ℕ). table n 0 f) (add-one k) ∙ table-more k 0 f ∙ ap (λ (n : ℕ). t ++ n ∷ []) (ap f (zero-add k) ∙ sym e) in
-    record {
-      is = ap (λ (l : List ℕ). set l (at + k) v) (h .is) ∙ ap (λ (n : ℕ). set (sets d at t) (at + n) v) (sym (length-table k 0 f)) ∙ step ∙ ap (λ (l : List ℕ). sets d at l) (sym more);
-      long = length-set s (at + k) v ∙ h .long;
-    }
-
-pub filled-all : {f : ℕ → ℕ} {d s : List ℕ} {at k m : ℕ} → Filled f d at k s → k ≡ m → s ≡ sets d at (table m 0 f)
-filled-all {f} {d} {s} {at} h e = h .is ∙ ap (λ (n : ℕ). sets d at (table n 0 f)) e
+pub filled-table : {f : ℕ → ℕ} {out now : List ℕ} {at i : ℕ} (n : ℕ) → Filled (λ k. f k ∷ []) out at i now → i ≡ n → now ≡ sets out at (table n 0 f)
+filled-table {f} {out} {at = at} n h e = filled-all n h e ∙ ap (λ (l : List ℕ). sets out at l) (sym (table-each n f))
 
 -- a part of a list
 pub length-part : (xs : List ℕ) (from n : ℕ) → from + n ≤ length xs → length (take n (drop from xs)) ≡ n

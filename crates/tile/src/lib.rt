@@ -1,6 +1,8 @@
 // Native tiles: how each mode's pixels stand in bytes.
 use mode::Mode;
+use mode::console;
 use words::Written;
+use words::refusal;
 ghost use mathlib.Core.Path.{_≡_};
 ghost use mathlib.Core.List.{[], _∷_};
 ghost use Prim.Native.Nat.{_+_, _*_, _<_, _≤_};
@@ -344,21 +346,21 @@ pub fn packing_of(m: Mode, depth: u32, width: u32, height: u32) -> Packing
 {
     let number = m.0;
     match number {
-        0 => pairs(depth),
-        1 => Packing::Plain,
-        2 => pairs(depth),
-        3 => pairs(depth),
-        4 => gba_packing(depth),
-        5 => Packing::Plain,
-        6 => Packing::LowFirst,
-        7 => fours(),
-        8 => fours(),
-        9 => pairs(depth),
-        10 => sprite_packing(width, height),
-        11 => Packing::Ngp,
-        12 => Packing::Ngp,
-        13 => pairs(depth),
-        14 => wsc_packing(depth),
+        console::SNES => pairs(depth),
+        console::SNES_MODE7 => Packing::Plain,
+        console::GB => pairs(depth),
+        console::GBC => pairs(depth),
+        console::GBA => gba_packing(depth),
+        console::GBA_AFFINE => Packing::Plain,
+        console::MD => Packing::LowFirst,
+        console::SMS => fours(),
+        console::GG => fours(),
+        console::PCE => pairs(depth),
+        console::PCE_SPRITE => sprite_packing(width, height),
+        console::NGP => Packing::Ngp,
+        console::NGPC => Packing::Ngp,
+        console::WS => pairs(depth),
+        console::WSC => wsc_packing(depth),
         _ => Packing::HighFirst,
     }
 }
@@ -388,7 +390,7 @@ fn is_sprite_height(height: u32) -> bool
 pub fn is_native(m: Mode, width: u32, height: u32) -> bool
     ensures { λ r. ⌜ r ≡ isNative (m .0) width height ⌝ }
 {
-    if m.0 == 10 {
+    if m.0 == console::PCE_SPRITE {
         if !is_sprite_width(width) {
             return false;
         }
@@ -405,21 +407,22 @@ fn tile_says(mode: u32, depth: u32, width: u32, height: u32) -> u32
     ensures { λ r. ⌜ r ≡ tileSays mode depth width height ⌝ }
 {
     if 15 < mode {
-        return 1;
+        return refusal::MODE;
     }
     let m = Mode(mode);
     if !m.has_depth(depth) {
-        return 3;
+        return refusal::DEPTH;
     }
     if !is_native(m, width, height) {
-        return 4;
+        return refusal::SIZE;
     }
     0
 }
 
-fn some_too_large(depth: u32, pixels: &[u8]) -> bool
-    requires { ⌜ depth ≤ 8 ⌝ }
-    ensures { λ r. ⌜ r ≡ some (length (now (pixels .entry))) (tooLarge depth (now (pixels .entry))) ⌝ }
+// Whether one of the first pixels, count of them, is of 2^depth or more.
+pub fn some_too_large(depth: u32, pixels: &[u8], count: usize) -> bool
+    requires { ⌜ (depth ≤ 8) × (count ≤ length (now pixels)) ⌝ }
+    ensures { λ r. ⌜ r ≡ some count (tooLarge depth (now (pixels .entry))) ⌝ }
 {
     // Every byte is a pixel of depth 8.
     if depth == 8 {
@@ -427,7 +430,7 @@ fn some_too_large(depth: u32, pixels: &[u8]) -> bool
     }
     let limit = words::up(1, depth);
     let mut i = 0;
-    while i < pixels.len() {
+    while i < count {
         if limit <= words::wide(pixels[i]) {
             return true;
         }
@@ -445,13 +448,13 @@ fn pack_says(mode: u32, depth: u32, width: u32, height: u32, pixels: &[u8], spac
     }
     let size = width * height;
     if pixels.len() != size as usize {
-        return 7;
+        return refusal::LENGTH;
     }
-    if some_too_large(depth, pixels) {
-        return 8;
+    if some_too_large(depth, pixels, pixels.len()) {
+        return refusal::PIXEL;
     }
     if space < (size * depth / 8) as usize {
-        return 11;
+        return refusal::OUTPUT;
     }
     0
 }
@@ -488,10 +491,10 @@ fn unpack_says(mode: u32, depth: u32, width: u32, height: u32, len: usize, space
     }
     let size = width * height;
     if len != (size * depth / 8) as usize {
-        return 7;
+        return refusal::LENGTH;
     }
     if space < size as usize {
-        return 11;
+        return refusal::OUTPUT;
     }
     0
 }

@@ -20,7 +20,7 @@ wide-requires c κs = search needs
 sub-word-with : tie.Need-sub-word-with
 sub-word-with c =
     let s = c .before .before .before .before .before in
-    omega (arith, red-low (s .args .l .top) (now (s .args .colors)) (s .args .i) (s .pre .1 .low))
+    omega (arith, red-low (s .args .places .top) (now (s .args .colors)) (s .args .i) (s .pre .1 .low))
 
 word-with-requires : tie.Need-word-with-requires
 word-with-requires c κs = search needs

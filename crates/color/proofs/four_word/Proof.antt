@@ -17,7 +17,7 @@ wide-requires c κs = search needs
 sub-a : tie.Need-sub-a
 sub-a c =
     let s = c .before .before .before .before in
-    omega (arith, red-within (s .args .l .top) (now (s .args .colors)) 4 (s .pre .1) 0 (omega arith))
+    omega (arith, red-within (s .args .places .top) (now (s .args .colors)) 4 (s .pre .1) 0 (omega arith))
 
 shared-slice-read-wide-2 : tie.Need-shared-slice-read-wide-2
 shared-slice-read-wide-2 c = search needs
@@ -28,7 +28,7 @@ wide-requires-2 c κs = search needs
 sub-b : tie.Need-sub-b
 sub-b c =
     let s = c .before .before .before .before .before .before .before in
-    omega (arith, red-within (s .args .l .top) (now (s .args .colors)) 4 (s .pre .1) 1 (omega arith))
+    omega (arith, red-within (s .args .places .top) (now (s .args .colors)) 4 (s .pre .1) 1 (omega arith))
 
 shared-slice-read-wide-3 : tie.Need-shared-slice-read-wide-3
 shared-slice-read-wide-3 c = search needs
@@ -39,7 +39,7 @@ wide-requires-3 c κs = search needs
 sub-c : tie.Need-sub-c
 sub-c c =
     let s = c .before .before .before .before .before .before .before .before .before .before in
-    omega (arith, red-within (s .args .l .top) (now (s .args .colors)) 4 (s .pre .1) 2 (omega arith))
+    omega (arith, red-within (s .args .places .top) (now (s .args .colors)) 4 (s .pre .1) 2 (omega arith))
 
 shared-slice-read-wide-4 : tie.Need-shared-slice-read-wide-4
 shared-slice-read-wide-4 c = search needs
@@ -50,7 +50,7 @@ wide-requires-4 c κs = search needs
 sub-d : tie.Need-sub-d
 sub-d c =
     let s = c .before .before .before .before .before .before .before .before .before .before .before .before .before in
-    omega (arith, red-within (s .args .l .top) (now (s .args .colors)) 4 (s .pre .1) 3 (omega arith))
+    omega (arith, red-within (s .args .places .top) (now (s .args .colors)) 4 (s .pre .1) 3 (omega arith))
 
 word-with-requires : tie.Need-word-with-requires
 word-with-requires c κs = search needs

@@ -16,19 +16,19 @@ use Rattle.color.proofs.pack_colors.Statement.{statement}
 use Rattle.color.proofs.pack_colors.Tie as tie
 
 -- what the checks leave
-passed : (c : tie.Else2) → Packs (c .before .before .layout-of .result) (now (c .before .before .before .before .before .before .args .colors)) (length (now (c .before .before .before .before .before .before .args .out)))
+passed : (c : tie.Else2) → Packs (c .before .before .color-places-of .result) (now (c .before .before .before .before .before .before .args .colors)) (length (now (c .before .before .before .before .before .before .args .out)))
 passed c =
-    packs (c .before .before .layout-of .result) (now (c .before .before .before .before .before .before .args .colors)) (length (now (c .before .before .before .before .before .before .args .out))) (sym (c .before .pack-says .ensures) ∙ c .if2 .left)
+    packs (c .before .before .color-places-of .result) (now (c .before .before .before .before .before .before .args .colors)) (length (now (c .before .before .before .before .before .before .args .out))) (sym (c .before .pack-says .ensures) ∙ c .if2 .left)
 
 none-due : (c : tie.Else2) → packSays (c .before .before .before .before .before .before .args .mode) (now (c .before .before .before .before .before .before .args .colors)) (length (now (c .before .before .before .before .before .before .args .out))) ≡ 0
 none-due c =
     let a = c .before .before .before .before .before .before .args in
-    sym (packs-says (a .mode) (omega arith) (now (a .colors)) (c .before .before .layout-of .result) (c .before .before .layout-of .ensures .0) (length (now (a .out)))) ∙ sym (c .before .pack-says .ensures) ∙ c .if2 .left
+    sym (packs-says (a .mode) (omega arith) (now (a .colors)) (c .before .before .color-places-of .result) (c .before .before .color-places-of .ensures .0) (length (now (a .out)))) ∙ sym (c .before .pack-says .ensures) ∙ c .if2 .left
 
 sized : (c : tie.After-packed-size) → c .packed-size .result ≡ length (packed (c .before .before .before .before .before .before .before .args .mode) (now (c .before .before .before .before .before .before .before .args .colors)))
 sized c =
     let a = c .before .before .before .before .before .before .before .args in
-    c .packed-size .ensures ∙ packs-size (a .mode) (omega arith) (now (a .colors)) (c .before .before .before .layout-of .result) (c .before .before .before .layout-of .ensures .0)
+    c .packed-size .ensures ∙ packs-size (a .mode) (omega arith) (now (a .colors)) (c .before .before .before .color-places-of .result) (c .before .before .before .color-places-of .ensures .0)
 
 refused-requires : tie.Need-refused-requires
 refused-requires c κs = search needs
@@ -38,8 +38,8 @@ returns c =
     let a = c .before .before .before .before .args in
     refuse 1 (sym (pack-no-mode (a .mode) (now (a .colors)) (length (now (a .out))) (c .before .if1 .taken))) (suc-ne-zero 0) (c .refused .ensures) refl
 
-layout-of-requires : tie.Need-layout-of-requires
-layout-of-requires c κs = search needs
+color-places-of-requires : tie.Need-color-places-of-requires
+color-places-of-requires c κs = search needs
 
 pack-says-requires : tie.Need-pack-says-requires
 pack-says-requires c κs = search needs
@@ -51,7 +51,7 @@ returns-2 : tie.Need-returns-2
 returns-2 c =
     let a = c .before .before .before .before .before .before .before .args in
     refuse (c .before .before .pack-says .result)
-    (c .before .before .pack-says .ensures ∙ packs-says (a .mode) (omega arith) (now (a .colors)) (c .before .before .before .layout-of .result) (c .before .before .before .layout-of .ensures .0) (length (now (a .out))))
+    (c .before .before .pack-says .ensures ∙ packs-says (a .mode) (omega arith) (now (a .colors)) (c .before .before .before .color-places-of .result) (c .before .before .before .color-places-of .ensures .0) (length (now (a .out))))
     (c .before .if2 .taken) (c .refused2 .ensures) refl
 
 packed-size-requires : tie.Need-packed-size-requires
@@ -60,12 +60,12 @@ packed-size-requires c κs = search needs
 four-word-requires : tie.Need-four-word-requires
 four-word-requires c κs =
     let a = c .before .before .before .before .before .before .before .before .before .args in
-    (c .before .before .before .before .before .layout-of .ensures .1, four-within (c .before .before .before .before .before .layout-of .result) (now (a .colors)) (length (now (a .out))) (passed (c .before .before .before)) (c .before .if3 .taken))
+    (c .before .before .before .before .before .color-places-of .ensures .1, four-within (c .before .before .before .before .before .color-places-of .result) (now (a .colors)) (length (now (a .out))) (passed (c .before .before .before)) (c .before .if3 .taken))
 
 put-word-requires : tie.Need-put-word-requires
 put-word-requires c κs =
     let fits = rw (c .before .before .if3 .taken) at (passed (c .before .before .before .before) .fits) in
-    let l = c .before .before .before .before .before .before .layout-of in
+    let l = c .before .before .before .before .before .before .color-places-of in
     (omega arith, l .ensures .1 .some, l .ensures .1 .few)
 
 same-length : tie.Need-same-length
@@ -74,7 +74,7 @@ same-length c = search needs
 returns-3 : tie.Need-returns-3
 returns-3 c =
     let a = c .before .before .before .before .before .before .before .before .before .before .before .before .before .args in
-    let l = c .before .before .before .before .before .before .before .before .before .layout-of in
+    let l = c .before .before .before .before .before .before .before .before .before .color-places-of in
     let bytes = packed (a .mode) (now (a .colors)) in
     let space : length bytes ≤ length (now (a .out)) = omega (arith, passed (c .before .before .before .before .before .before .before) .fits, sized (c .before .before .before .before .before .before), c .before .before .before .before .before .before .packed-size .ensures) in
     done (none-due (c .before .before .before .before .before .before .before)) (ap (λ (n : ℕ). written 0 n) (sized (c .before .before .before .before .before .before)))
@@ -83,7 +83,7 @@ returns-3 c =
 put-words-requires : tie.Need-put-words-requires
 put-words-requires c κs =
     let a = c .before .before .before .before .before .before .before .before .before .args in
-    let l = c .before .before .before .before .before .layout-of in
+    let l = c .before .before .before .before .before .color-places-of in
     let p = passed (c .before .before .before) in
     (l .ensures .1, words-within (l .result) (now (a .colors)) (length (now (a .out))) p, rw (c .before .if3 .left) at (p .fits))
 
@@ -93,7 +93,7 @@ same-length-2 c = search needs
 returns-4 : tie.Need-returns-4
 returns-4 c =
     let a = c .before .before .before .before .before .before .before .before .before .before .before .before .args in
-    let l = c .before .before .before .before .before .before .before .before .layout-of in
+    let l = c .before .before .before .before .before .before .before .before .color-places-of in
     let n = length (now (a .colors)) / 4 in
     let bytes = packed (a .mode) (now (a .colors)) in
     let size : n * l .result .size ≡ length bytes = rw (c .before .before .before .before .if3 .left) at (sym (c .before .before .before .before .before .packed-size .ensures) ∙ sized (c .before .before .before .before .before)) in
@@ -106,7 +106,7 @@ pack-colors-spec =
     (tie.spec
     refused-requires
     returns
-    layout-of-requires
+    color-places-of-requires
     pack-says-requires
     refused-requires-2
     returns-2

@@ -8,7 +8,7 @@ use native.Mathlib.Omega.{arith}
 use lib.ListN.{length, drop}
 use denote.Ref.{now}
 use Rattle.words.specs.Loops.{each}
-use Rattle.color.specs.Places.{colorFrom, wordFrom}
+use Rattle.color.specs.Inner.{colorFrom, wordFrom}
 use Rattle.words.proofs.Items.{item-inside, item-end, put-item}
 use Rattle.color.proofs.Unpacking.{length-from}
 use Rattle.color.proofs.put_colors.Statement.{statement}
@@ -27,12 +27,12 @@ abbrev μ-loop : tie.MeasureT-loop
 
 loop-holds : tie.Need-loop-holds Inv-loop μ-loop
 loop-holds c =
-    (omega arith, sym (zero-mul (c .before .before .args .l .size)), refl, refl, refl)
+    (omega arith, sym (zero-mul (c .before .before .args .places .size)), refl, refl, refl)
 
 get-word-requires : tie.Need-get-word-requires Inv-loop μ-loop
 get-word-requires c κs =
     let s = c .before .before .before .before in
-    (omega (arith, item-inside (s .args .l .size) (s .args .n) (c .before .loop .i) (c .loop-test .taken), c .before .loop .inv .1, s .pre .1), s .pre .0 .some, s .pre .0 .few)
+    (omega (arith, item-inside (s .args .places .size) (s .args .n) (c .before .loop .i) (c .loop-test .taken), c .before .loop .inv .1, s .pre .1), s .pre .0 .some, s .pre .0 .few)
 
 put-color-from-requires : tie.Need-put-color-from-requires Inv-loop μ-loop
 put-color-from-requires c κs =
@@ -42,7 +42,7 @@ put-color-from-requires c κs =
 add-from : tie.Need-add-from Inv-loop μ-loop
 add-from c =
     let s = c .before .before .before .before .before .before .before .before .before .before in
-    omega (arith, item-inside (s .args .l .size) (s .args .n) (c .before .before .before .before .before .before .before .loop .i) (c .before .before .before .before .before .before .loop-test .taken), c .before .before .before .before .before .before .before .loop .inv .1, s .pre .1)
+    omega (arith, item-inside (s .args .places .size) (s .args .n) (c .before .before .before .before .before .before .before .loop .i) (c .before .before .before .before .before .before .loop-test .taken), c .before .before .before .before .before .before .before .loop .inv .1, s .pre .1)
 
 add-at : tie.Need-add-at Inv-loop μ-loop
 add-at c =
@@ -62,10 +62,10 @@ loop-again c =
     let inv = c .before .before .before .before .before .before .before .loop .inv in
     let space : i * 4 + 4 ≤ length (now (a .out)) = omega (arith, s .pre .2) in (
       omega arith,
-      rw (inv .1) (item-end (a .l .size) i),
+      rw (inv .1) (item-end (a .places .size) i),
       rw (inv .2) (item-end 4 i),
       c .before .before .before .put-color-from .kept .1 .1 .0 ∙ inv .3,
-      c .before .before .before .put-color-from .ensures ∙ rw (inv .4, inv .2, c .before .before .before .before .before .get-word .ensures .0, inv .1) (put-item 4 (λ k. colorFrom (a .l) (wordFrom (a .l) (now (a .bytes)) (k * a .l .size))) (λ k. length-from (a .l) (wordFrom (a .l) (now (a .bytes)) (k * a .l .size))) i (now (a .out)) space),
+      c .before .before .before .put-color-from .ensures ∙ rw (inv .4, inv .2, c .before .before .before .before .before .get-word .ensures .0, inv .1) (put-item 4 (λ k. colorFrom (a .places) (wordFrom (a .places) (now (a .bytes)) (k * a .places .size))) (λ k. length-from (a .places) (wordFrom (a .places) (now (a .bytes)) (k * a .places .size))) i (now (a .out)) space),
     )
 
 same-length : tie.Need-same-length Inv-loop μ-loop

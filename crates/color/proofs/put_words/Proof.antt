@@ -10,7 +10,7 @@ use denote.Ref.{now}
 use Rattle.words.specs.Loops.{each}
 use Rattle.words.proofs.Bytes.{length-bytes}
 use Rattle.color.specs.Color.{above}
-use Rattle.color.specs.Places.{colorWord, colorBytes}
+use Rattle.color.specs.Inner.{colorWord, colorBytes}
 use Rattle.words.proofs.Items.{none-at, item-inside, item-end, put-item}
 use Rattle.color.proofs.put_words.Statement.{statement}
 use Rattle.color.proofs.put_words.Tie as tie
@@ -24,24 +24,24 @@ abbrev μ-loop : tie.MeasureT-loop
 
 loop-holds : tie.Need-loop-holds Inv-loop μ-loop
 loop-holds c =
-    let l = c .before .before .args .l in
+    let l = c .before .before .args .places in
     (omega arith, sym (zero-mul (l .size)), refl, rw (zero-mul (l .size)))
 
 color-word-requires : tie.Need-color-word-requires Inv-loop μ-loop
 color-word-requires c κs =
     let s = c .before .before .before .before in
-    (s .pre .0, record { there = omega arith; low = none-at (s .args .n) (above (s .args .l .top) (now (s .args .colors))) (s .pre .1 .low) (c .before .loop .i) (c .loop-test .taken) })
+    (s .pre .0, record { there = omega arith; low = none-at (s .args .n) (above (s .args .places .top) (now (s .args .colors))) (s .pre .1 .low) (c .before .loop .i) (c .loop-test .taken) })
 
 put-word-requires : tie.Need-put-word-requires Inv-loop μ-loop
 put-word-requires c κs =
     let s = c .before .before .before .before .before .before in
     let inv = c .before .before .before .loop .inv in
-    (omega (arith, item-inside (s .args .l .size) (s .args .n) (c .before .before .before .loop .i) (c .before .before .loop-test .taken), inv .1, inv .2), s .pre .0 .some, s .pre .0 .few)
+    (omega (arith, item-inside (s .args .places .size) (s .args .n) (c .before .before .before .loop .i) (c .before .before .loop-test .taken), inv .1, inv .2), s .pre .0 .some, s .pre .0 .few)
 
 add-at : tie.Need-add-at Inv-loop μ-loop
 add-at c =
     let s = c .before .before .before .before .before .before .before .before .before .before in
-    omega (arith, item-inside (s .args .l .size) (s .args .n) (c .before .before .before .before .before .before .before .loop .i) (c .before .before .before .before .before .before .loop-test .taken), c .before .before .before .before .before .before .before .loop .inv .1, s .good)
+    omega (arith, item-inside (s .args .places .size) (s .args .n) (c .before .before .before .before .before .before .before .loop .i) (c .before .before .before .before .before .before .loop-test .taken), c .before .before .before .before .before .before .before .loop .inv .1, s .good)
 
 add-i : tie.Need-add-i Inv-loop μ-loop
 add-i c = omega arith
@@ -55,12 +55,12 @@ loop-again c =
     let a = s .args in
     let i = c .before .before .before .before .before .before .before .loop .i in
     let inv = c .before .before .before .before .before .before .before .loop .inv in
-    let inside = item-inside (a .l .size) (a .n) i (c .before .before .before .before .before .before .loop-test .taken) in
-    let space : i * a .l .size + a .l .size ≤ length (now (a .out)) = omega (arith, s .pre .2) in (
+    let inside = item-inside (a .places .size) (a .n) i (c .before .before .before .before .before .before .loop-test .taken) in
+    let space : i * a .places .size + a .places .size ≤ length (now (a .out)) = omega (arith, s .pre .2) in (
       omega arith,
-      rw (inv .1) (item-end (a .l .size) i),
+      rw (inv .1) (item-end (a .places .size) i),
       c .before .before .before .put-word .kept .0 ∙ inv .2,
-      c .before .before .before .put-word .ensures ∙ rw (inv .3, inv .1, c .before .before .before .before .before .color-word .ensures) (put-item (a .l .size) (colorBytes (a .l) (now (a .colors))) (λ j. length-bytes (a .l .size) (a .l .most) (colorWord (a .l) (now (a .colors)) j)) i (now (a .out)) space),
+      c .before .before .before .put-word .ensures ∙ rw (inv .3, inv .1, c .before .before .before .before .before .color-word .ensures) (put-item (a .places .size) (colorBytes (a .places) (now (a .colors))) (λ j. length-bytes (a .places .size) (a .places .most) (colorWord (a .places) (now (a .colors)) j)) i (now (a .out)) space),
     )
 
 same-length : tie.Need-same-length Inv-loop μ-loop

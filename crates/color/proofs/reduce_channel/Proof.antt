@@ -13,8 +13,8 @@ returns : tie.Need-returns
 returns c =
     c .no-number .ensures ∙ rw (lt-ltb 15 _ (c .before .if1 .taken))
 
-layout-of-requires : tie.Need-layout-of-requires
-layout-of-requires c κs = search needs
+color-places-of-requires : tie.Need-color-places-of-requires
+color-places-of-requires c κs = search needs
 
 wide-requires : tie.Need-wide-requires
 wide-requires c κs = search needs
@@ -24,7 +24,7 @@ reduced-to-requires c κs = search needs
 
 returns-2 : tie.Need-returns-2
 returns-2 c =
-    rw (le-ltb 15 _ (c .before .before .before .if1 .left), c .reduced-to .ensures, c .before .wide .ensures .0, c .before .before .layout-of .ensures .0)
+    rw (le-ltb 15 _ (c .before .before .before .if1 .left), c .reduced-to .ensures, c .before .wide .ensures .0, c .before .before .color-places-of .ensures .0)
 
 pub reduce-channel-spec : {M : Type 1} → statement M
 reduce-channel-spec =
@@ -32,7 +32,7 @@ reduce-channel-spec =
     (tie.spec
     no-number-requires
     returns
-    layout-of-requires
+    color-places-of-requires
     wide-requires
     reduced-to-requires
     returns-2)

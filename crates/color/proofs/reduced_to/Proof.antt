@@ -23,13 +23,13 @@ enum-told-2 c = search needs
 mul-result : tie.Need-mul-result
 mul-result c =
     let a = c .before .before .before .args in
-    let h : a .value * a .l .top ≤ 255 * 255 = mul-le-mul {n₂ = 255} {m₂ = 255} (omega arith) (omega arith) in
+    let h : a .value * a .places .top ≤ 255 * 255 = mul-le-mul {n₂ = 255} {m₂ = 255} (omega arith) (omega arith) in
     omega arith
 
 add-result : tie.Need-add-result
 add-result c =
     let a = c .before .before .before .args in
-    let h : a .value * a .l .top ≤ 255 * 255 = mul-le-mul {n₂ = 255} {m₂ = 255} (omega arith) (omega arith) in
+    let h : a .value * a .places .top ≤ 255 * 255 = mul-le-mul {n₂ = 255} {m₂ = 255} (omega arith) (omega arith) in
     omega arith
 
 returns : tie.Need-returns

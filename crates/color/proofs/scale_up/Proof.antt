@@ -17,8 +17,8 @@ returns : tie.Need-returns
 returns c =
     c .no-number .ensures ∙ rw (lt-ltb 15 _ (c .before .if1 .taken))
 
-layout-of-requires : tie.Need-layout-of-requires
-layout-of-requires c κs = search needs
+color-places-of-requires : tie.Need-color-places-of-requires
+color-places-of-requires c κs = search needs
 
 no-number-requires-2 : tie.Need-no-number-requires-2
 no-number-requires-2 c κs = search needs
@@ -26,7 +26,7 @@ no-number-requires-2 c κs = search needs
 returns-2 : tie.Need-returns-2
 returns-2 c =
     let a = c .before .before .before .before .before .args in
-    let over : row (a .mode) .top < a .component = rw (c .before .before .before .layout-of .ensures .0) at (c .before .if2 .taken) in
+    let over : row (a .mode) .top < a .component = rw (c .before .before .before .color-places-of .ensures .0) at (c .before .if2 .taken) in
     c .no-number2 .ensures ∙ rw (le-ltb 15 _ (c .before .before .before .before .if1 .left), lt-ltb _ _ over)
 
 repeated-requires : tie.Need-repeated-requires
@@ -35,8 +35,8 @@ repeated-requires c κs = search needs
 returns-3 : tie.Need-returns-3
 returns-3 c =
     let a = c .before .before .before .before .before .args in
-    let le : a .component ≤ row (a .mode) .top = rw (c .before .before .before .layout-of .ensures .0) at (c .before .if2 .left) in
-    rw (le-ltb 15 _ (c .before .before .before .before .if1 .left), le-ltb _ _ le, c .repeated .ensures, c .before .before .before .layout-of .ensures .0, copies-right (a .mode) (omega arith) (a .component) le)
+    let le : a .component ≤ row (a .mode) .top = rw (c .before .before .before .color-places-of .ensures .0) at (c .before .if2 .left) in
+    rw (le-ltb 15 _ (c .before .before .before .before .if1 .left), le-ltb _ _ le, c .repeated .ensures, c .before .before .before .color-places-of .ensures .0, copies-right (a .mode) (omega arith) (a .component) le)
 
 pub scale-up-spec : {M : Type 1} → statement M
 scale-up-spec =
@@ -44,7 +44,7 @@ scale-up-spec =
     (tie.spec
     no-number-requires
     returns
-    layout-of-requires
+    color-places-of-requires
     no-number-requires-2
     returns-2
     repeated-requires

@@ -1,6 +1,6 @@
 -- A refusal leaves the bytes as they were; otherwise they begin with the unpacked colours.
 -- Assumes nothing.
-use Rattle.color.specs.Places.{fourFrom}
+use Rattle.color.specs.Inner.{fourFrom}
 use mathlib.Core.Path.{_≡_, refl, sym, ap, _∙_}
 use mathlib.Core.List.{List}
 use Prim.Native.Nat.{ℕ, _*_, _/_, _≤_}
@@ -17,14 +17,14 @@ use Rattle.color.proofs.unpack_colors.Statement.{statement}
 use Rattle.color.proofs.unpack_colors.Tie as tie
 
 -- what the checks leave
-passed : (c : tie.Else2) → Unpacks (c .before .before .layout-of .result) (length (now (c .before .before .before .before .before .before .args .bytes))) (length (now (c .before .before .before .before .before .before .args .out)))
+passed : (c : tie.Else2) → Unpacks (c .before .before .color-places-of .result) (length (now (c .before .before .before .before .before .before .args .bytes))) (length (now (c .before .before .before .before .before .before .args .out)))
 passed c =
-    unpacks (c .before .before .layout-of .result) (length (now (c .before .before .before .before .before .before .args .bytes))) (length (now (c .before .before .before .before .before .before .args .out))) (sym (c .before .unpack-says .ensures) ∙ c .if2 .left)
+    unpacks (c .before .before .color-places-of .result) (length (now (c .before .before .before .before .before .before .args .bytes))) (length (now (c .before .before .before .before .before .before .args .out))) (sym (c .before .unpack-says .ensures) ∙ c .if2 .left)
 
 none-due : (c : tie.Else2) → unpackSays (c .before .before .before .before .before .before .args .mode) (length (now (c .before .before .before .before .before .before .args .bytes))) (length (now (c .before .before .before .before .before .before .args .out))) ≡ 0
 none-due c =
     let a = c .before .before .before .before .before .before .args in
-    sym (unpacks-says (a .mode) (omega arith) (now (a .bytes)) (c .before .before .layout-of .result) (c .before .before .layout-of .ensures .0) (length (now (a .out)))) ∙ sym (c .before .unpack-says .ensures) ∙ c .if2 .left
+    sym (unpacks-says (a .mode) (omega arith) (now (a .bytes)) (c .before .before .color-places-of .result) (c .before .before .color-places-of .ensures .0) (length (now (a .out)))) ∙ sym (c .before .unpack-says .ensures) ∙ c .if2 .left
 
 -- the colours have room
 space : (c : tie.After-color-count) → 4 * c .color-count .result ≤ length (now (c .before .before .before .before .before .before .before .args .out))
@@ -33,7 +33,7 @@ space c = rw (c .color-count .ensures) (passed (c .before) .fits)
 sized : (c : tie.After-color-count) → c .color-count .result * 4 ≡ length (unpacked (c .before .before .before .before .before .before .before .args .mode) (now (c .before .before .before .before .before .before .before .args .bytes)))
 sized c =
     let a = c .before .before .before .before .before .before .before .args in
-    rw (c .color-count .ensures) (unpacks-size (a .mode) (omega arith) (now (a .bytes)) (c .before .before .before .layout-of .result) (c .before .before .before .layout-of .ensures .0))
+    rw (c .color-count .ensures) (unpacks-size (a .mode) (omega arith) (now (a .bytes)) (c .before .before .before .color-places-of .result) (c .before .before .before .color-places-of .ensures .0))
 
 refused-requires : tie.Need-refused-requires
 refused-requires c κs = search needs
@@ -43,8 +43,8 @@ returns c =
     let a = c .before .before .before .before .args in
     refuse 1 (sym (unpack-no-mode (a .mode) (length (now (a .bytes))) (length (now (a .out))) (c .before .if1 .taken))) (suc-ne-zero 0) (c .refused .ensures) refl
 
-layout-of-requires : tie.Need-layout-of-requires
-layout-of-requires c κs = search needs
+color-places-of-requires : tie.Need-color-places-of-requires
+color-places-of-requires c κs = search needs
 
 unpack-says-requires : tie.Need-unpack-says-requires
 unpack-says-requires c κs = search needs
@@ -56,7 +56,7 @@ returns-2 : tie.Need-returns-2
 returns-2 c =
     let a = c .before .before .before .before .before .before .before .args in
     refuse (c .before .before .unpack-says .result)
-    (c .before .before .unpack-says .ensures ∙ unpacks-says (a .mode) (omega arith) (now (a .bytes)) (c .before .before .before .layout-of .result) (c .before .before .before .layout-of .ensures .0) (length (now (a .out))))
+    (c .before .before .unpack-says .ensures ∙ unpacks-says (a .mode) (omega arith) (now (a .bytes)) (c .before .before .before .color-places-of .result) (c .before .before .before .color-places-of .ensures .0) (length (now (a .out))))
     (c .before .if2 .taken) (c .refused2 .ensures) refl
 
 color-count-requires : tie.Need-color-count-requires
@@ -65,14 +65,14 @@ color-count-requires c κs = search needs
 get-word-requires : tie.Need-get-word-requires
 get-word-requires c κs =
     let a = c .before .before .before .before .before .before .before .before .args in
-    let l = c .before .before .before .before .layout-of in
+    let l = c .before .before .before .before .color-places-of in
     let whole = four-whole (l .result) (length (now (a .bytes))) (length (now (a .out))) (passed (c .before .before)) (c .if3 .taken) in
     (omega arith, l .ensures .1 .some, l .ensures .1 .few)
 
 put-four-requires : tie.Need-put-four-requires
 put-four-requires c κs =
     let fits : 4 * 4 ≤ length (now (c .before .before .before .before .before .before .before .before .before .before .args .out)) = rw (c .before .before .if3 .taken) at (passed (c .before .before .before .before) .fits) in
-    (c .before .before .before .before .before .before .layout-of .ensures .1, fits)
+    (c .before .before .before .before .before .before .color-places-of .ensures .1, fits)
 
 mul-t15 : tie.Need-mul-t15
 mul-t15 c = omega (arith, space (c .before .before .before .before .before .before), c .before .before .before .before .before .before .before .before .before .before .before .before .before .good)
@@ -83,7 +83,7 @@ same-length c = search needs
 returns-3 : tie.Need-returns-3
 returns-3 c =
     let a = c .before .before .before .before .before .before .before .before .before .before .before .before .before .args in
-    let l = c .before .before .before .before .before .before .before .before .before .layout-of in
+    let l = c .before .before .before .before .before .before .before .before .before .color-places-of in
     done (none-due (c .before .before .before .before .before .before .before)) (ap (λ (k : ℕ). written 0 k) (sized (c .before .before .before .before .before .before)))
     (c .before .before .put-four .ensures
     ∙ ap (λ (w : ℕ). overwrite (now (a .out)) (fourFrom (l .result) w)) (c .before .before .before .before .get-word .ensures .0)
@@ -92,7 +92,7 @@ returns-3 c =
 put-colors-requires : tie.Need-put-colors-requires
 put-colors-requires c κs =
     let a = c .before .before .before .before .before .before .before .before .before .args in
-    let l = c .before .before .before .before .before .layout-of in
+    let l = c .before .before .before .before .before .color-places-of in
     let n : c .before .before .color-count .result ≡ length (now (a .bytes)) / l .result .size = rw (c .before .if3 .left) at (c .before .before .color-count .ensures) in
     (l .ensures .1, rw n (div-mul-le-self (length (now (a .bytes))) (l .result .size)), omega (arith, space (c .before .before)))
 
@@ -105,7 +105,7 @@ same-length-2 c = search needs
 returns-4 : tie.Need-returns-4
 returns-4 c =
     let a = c .before .before .before .before .before .before .before .before .before .before .before .before .args in
-    let l = c .before .before .before .before .before .before .before .before .layout-of in
+    let l = c .before .before .before .before .before .before .before .before .color-places-of in
     let n : c .before .before .before .before .before .color-count .result ≡ length (now (a .bytes)) / l .result .size = rw (c .before .before .before .before .if3 .left) at (c .before .before .before .before .before .color-count .ensures) in
     let colors = unpacks-words (a .mode) (omega arith) (now (a .bytes)) (l .result) (l .ensures .0) (c .before .before .before .before .if3 .left) in
     done (none-due (c .before .before .before .before .before .before)) (ap (λ (k : ℕ). written 0 k) (sized (c .before .before .before .before .before)))
@@ -117,7 +117,7 @@ unpack-colors-spec =
     (tie.spec
     refused-requires
     returns
-    layout-of-requires
+    color-places-of-requires
     unpack-says-requires
     refused-requires-2
     returns-2

@@ -1,4 +1,4 @@
--- Four bytes moved up by twelve places at most stay below 2 ^ 32, and so does their sum.
+-- Four bytes moved up by sixteen places at most stay below 2 ^ 32, and so does their sum.
 -- Assumes nothing.
 use Rattle.words.proofs.Bits.{up-under}
 use native.Mathlib.Omega.{arith}
@@ -15,7 +15,7 @@ up-requires-2 c κs = search needs
 add-result : tie.Need-add-result
 add-result c =
     let s = c .before .before in
-    omega (arith, up-under 8 12 (s .pre .1) (s .pre .0 .first), up-under 8 12 (s .pre .2) (s .pre .0 .second))
+    omega (arith, up-under 8 16 (s .pre .1) (s .pre .0 .first), up-under 8 16 (s .pre .2) (s .pre .0 .second))
 
 up-requires-3 : tie.Need-up-requires-3
 up-requires-3 c κs = search needs
@@ -23,7 +23,7 @@ up-requires-3 c κs = search needs
 add-result-2 : tie.Need-add-result-2
 add-result-2 c =
     let s = c .before .before .before in
-    omega (arith, up-under 8 12 (s .pre .1) (s .pre .0 .first), up-under 8 12 (s .pre .2) (s .pre .0 .second), up-under 8 12 (s .pre .3) (s .pre .0 .third))
+    omega (arith, up-under 8 16 (s .pre .1) (s .pre .0 .first), up-under 8 16 (s .pre .2) (s .pre .0 .second), up-under 8 16 (s .pre .3) (s .pre .0 .third))
 
 up-requires-4 : tie.Need-up-requires-4
 up-requires-4 c κs = search needs
@@ -31,7 +31,7 @@ up-requires-4 c κs = search needs
 add-result-3 : tie.Need-add-result-3
 add-result-3 c =
     let s = c .before .before .before .before in
-    omega (arith, up-under 8 12 (s .pre .1) (s .pre .0 .first), up-under 8 12 (s .pre .2) (s .pre .0 .second), up-under 8 12 (s .pre .3) (s .pre .0 .third), up-under 8 12 (s .pre .4) (s .pre .0 .fourth))
+    omega (arith, up-under 8 16 (s .pre .1) (s .pre .0 .first), up-under 8 16 (s .pre .2) (s .pre .0 .second), up-under 8 16 (s .pre .3) (s .pre .0 .third), up-under 8 16 (s .pre .4) (s .pre .0 .fourth))
 
 returns : tie.Need-returns
 returns c = search needs

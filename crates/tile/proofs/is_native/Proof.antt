@@ -6,14 +6,14 @@ use mathlib.Core.List.{[], _∷_}
 use Prim.Native.Nat.{ℕ}
 use borrow.Author.Tests.{eq-eqb, ne-eqb, not-true, not-false}
 use borrow.Author.Needs.{needs}
-use Rattle.mode.specs.Table.{oneOf}
+use Rattle.mode.specs.Table.{oneOf, pce-sprite}
 use Rattle.tile.specs.Tile.{isNative}
 use Rattle.tile.proofs.Packings.{or-none}
 use Rattle.tile.proofs.is_native.Statement.{statement}
 use Rattle.tile.proofs.is_native.Tie as tie
 
 -- a sprite of this width
-of-width : (m w h : ℕ) (r b : Bool) → m ≡ 10 → r ≡ oneOf w (16 ∷ 32 ∷ []) → r ≡ b → (b && oneOf h (16 ∷ 32 ∷ 64 ∷ [])) ≡ isNative m w h
+of-width : (m w h : ℕ) (r b : Bool) → m ≡ pce-sprite → r ≡ oneOf w (16 ∷ 32 ∷ []) → r ≡ b → (b && oneOf h (16 ∷ 32 ∷ 64 ∷ [])) ≡ isNative m w h
 of-width m w h r b e f g = sym (ap (λ (n : ℕ). isNative n w h) e ∙ ap (λ (t : Bool). t && oneOf h (16 ∷ 32 ∷ 64 ∷ [])) (sym f ∙ g))
 
 is-sprite-width-requires : tie.Need-is-sprite-width-requires
@@ -33,10 +33,10 @@ returns-2 c =
     c .is-sprite-height .ensures ∙ of-width (a .m .0) (a .width) (a .height) _ _ (c .before .before .before .if1 .taken) (c .before .before .is-sprite-width .ensures) (not-false _ (c .before .if2 .left))
 
 returns-3 : tie.Need-returns-3
-returns-3 c = rw (ne-eqb _ 10 (c .before .if1 .left), ne-eqb _ 8 (c .if3 .taken))
+returns-3 c = rw (ne-eqb _ pce-sprite (c .before .if1 .left), ne-eqb _ 8 (c .if3 .taken))
 
 returns-4 : tie.Need-returns-4
-returns-4 c = rw (ne-eqb _ 10 (c .before .if1 .left), eq-eqb _ 8 (c .if3 .left)) (sym (or-none _))
+returns-4 c = rw (ne-eqb _ pce-sprite (c .before .if1 .left), eq-eqb _ 8 (c .if3 .left)) (sym (or-none _))
 
 pub is-native-spec : {M : Type 1} → statement M
 is-native-spec =

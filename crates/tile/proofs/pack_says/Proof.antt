@@ -37,7 +37,7 @@ returns-2 c =
     pack-7 (a .mode) (a .depth) (a .width) (a .height) (a .pixels .now) (a .space) (allowed (c .before)) (c .if2 .taken)
 
 some-too-large-requires : tie.Need-some-too-large-requires
-some-too-large-requires c κs = fits (c .before) .deep
+some-too-large-requires c κs = (fits (c .before) .deep, omega arith)
 
 returns-3 : tie.Need-returns-3
 returns-3 c =

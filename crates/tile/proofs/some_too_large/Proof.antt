@@ -16,15 +16,15 @@ use Rattle.tile.proofs.some_too_large.Statement.{statement}
 use Rattle.tile.proofs.some_too_large.Tie as tie
 
 abbrev Inv-loop : tie.InvT-loop
-Inv-loop depth pixels limit i₀ i = (i ≤ length pixels) × (some i (tooLarge depth pixels) ≡ false)
+Inv-loop depth pixels count limit i₀ i = (i ≤ count) × (some i (tooLarge depth pixels) ≡ false)
 
 abbrev μ-loop : tie.MeasureT-loop
-μ-loop depth pixels limit i₀ i = length pixels - i
+μ-loop depth pixels count limit i₀ i = count - i
 
 returns : tie.Need-returns Inv-loop μ-loop
 returns c =
     let a = c .before .before .args in
-    sym (all-small (length (a .pixels .now)) (a .depth) (a .pixels .now) (λ i l. subst (λ (d : ℕ). getD (a .pixels .now) i 0 < 2 ^ d) (sym (c .if1 .taken)) (omega (arith, c .before .shared-slice-known .given i))))
+    sym (all-small (a .count) (a .depth) (a .pixels .now) (λ i l. subst (λ (d : ℕ). getD (a .pixels .now) i 0 < 2 ^ d) (sym (c .if1 .taken)) (omega (arith, c .before .shared-slice-known .given i))))
 
 up-requires : tie.Need-up-requires Inv-loop μ-loop
 up-requires c κs = search needs
@@ -42,7 +42,7 @@ returns-2 : tie.Need-returns-2 Inv-loop μ-loop
 returns-2 c =
     let a = c .before .before .before .before .before .before .before .before .args in
     let i = c .before .before .before .before .loop .i in
-    sym (some-true (length (a .pixels .now)) (tooLarge (a .depth) (a .pixels .now)) i (c .before .before .before .loop-test .taken) (le-leb (2 ^ a .depth) (getD (a .pixels .now) i 0) (omega (arith, c .before .before .before .before .before .up .ensures, c .before .wide .ensures .0))))
+    sym (some-true (a .count) (tooLarge (a .depth) (a .pixels .now)) i (c .before .before .before .loop-test .taken) (le-leb (2 ^ a .depth) (getD (a .pixels .now) i 0) (omega (arith, c .before .before .before .before .before .up .ensures, c .before .wide .ensures .0))))
 
 add-i : tie.Need-add-i Inv-loop μ-loop
 add-i c = search needs
@@ -59,7 +59,7 @@ loop-again c =
 returns-3 : tie.Need-returns-3 Inv-loop μ-loop
 returns-3 c =
     let a = c .before .before .before .before .before .args in
-    let all : c .before .loop .i ≡ length (a .pixels .now) = omega arith in
+    let all : c .before .loop .i ≡ a .count = omega arith in
     sym (subst (λ (k : ℕ). some k (tooLarge (a .depth) (a .pixels .now)) ≡ false) all (c .before .loop .inv .1))
 
 pub some-too-large-spec : {M : Type 1} → statement M
