@@ -13,12 +13,12 @@ use Rattle.tileset.specs.Sets.{area, roomIn, setSays, lookSays, withCoun
 use Rattle.tileset.specs.Finding.{cutTo, foundIn}
 use Rattle.tileset.specs.Adding.{discards, addSays, added, storeWith}
 use Rattle.tileset.specs.Keeping.{keep, keepAll}
-use Rattle.tileset.specs.History.{setTiles, Since, start, taking, since, addsOf, setAtEnd, storeAtEnd, accepted}
+use Rattle.tileset.specs.History.{setTiles, Since, sinceStart, taking, sinceCalls, addsOf, setAtEnd, storeAtEnd, accepted}
 use Rattle.tileset.specs.declared.Set.{Set}
 use Rattle.tileset.proofs.Says.{held-0, look-0}
 use Rattle.tileset.proofs.AddingLaws.{add-says}
 use Rattle.tileset.proofs.Keeping.{Every, keep-grows, all-grow}
-use Rattle.tileset.proofs.History.{count-tiles, Grown, keep-is, grown, stands-start, after-calls, adds-promised}
+use Rattle.tileset.proofs.History.{count-tiles, Grown, keep-is, grown, adds-stand}
 
 -- what is kept of some tiles after those of a set
 abbrev pub keptAfter : Set → List ℕ → List (List ℕ) → List (List ℕ)
@@ -74,20 +74,20 @@ module _ (z : Set) (s p : List ℕ) (ps : List (List ℕ)) (roomy : Roomy z s (p
       })
 
 -- each is taken
-all-taken : (x : Set) (t : Since) (z : Set) (s : List ℕ) (ps : List (List ℕ)) → Roomy z s ps → since x t (addsOf z s ps) ≡ taking t (map (cutTo (x .depth)) ps)
-all-taken x t z s [] roomy = ap (λ (l : List (List ℕ)). record { stored = t .stored; discarded = t .discarded; tiles = t .tiles; taken = l }) (sym (append-nil (t .taken)))
+all-taken : (x : Set) (t : Since) (z : Set) (s : List ℕ) (ps : List (List ℕ)) → Roomy z s ps → sinceCalls x t (addsOf z s ps) ≡ taking t (map (cutTo (x .depth)) ps)
+all-taken x t z s [] roomy = rw append-nil
 all-taken x t z s (p ∷ ps) roomy =
     let e = done z s p ps roomy in
     let tile = cutTo (x .depth) p in
-    rw e (all-taken x (taking t (tile ∷ [])) (added z s p) (storeWith z s p) ps (others z s p ps roomy (grown z s p e))
-    ∙ ap (λ (l : List (List ℕ)). record { stored = t .stored; discarded = t .discarded; tiles = t .tiles; taken = l }) (append-assoc (t .taken) (tile ∷ []) (map (cutTo (x .depth)) ps)))
+    rw (e, ← append-assoc (t .taken) (tile ∷ []) (map (cutTo (x .depth)) ps))
+    (all-taken x (taking t (tile ∷ [])) (added z s p) (storeWith z s p) ps (others z s p ps roomy (grown z s p e)))
 
 -- every add is answered 0, and the set has what is kept of the tiles
 pub all-added : (z : Set) (s : List ℕ) (ps : List (List ℕ)) → Roomy z s ps
     → (accepted z s ps ≡ length ps) × (setTiles (setAtEnd z s ps) (storeAtEnd z s ps) ≡ keptAfter z s ps)
 all-added z s ps roomy =
-    let all = all-taken z (start z s) z s ps roomy in (
+    let all = all-taken z (sinceStart z s) z s ps roomy in (
       ap (λ (t : Since). length (t .taken)) all ∙ length-map ps (cutTo (z .depth)),
-      after-calls z (stands-start z s) (addsOf z s ps) (adds-promised z s ps) .tiles
+      adds-stand z s ps .tiles
           ∙ ap (λ (t : Since). keepAll (z .discarding) (z .flips) (z .width) (z .height) (t .tiles) (t .taken)) all,
     )

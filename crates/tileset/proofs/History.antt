@@ -2,7 +2,7 @@
 -- Assumes nothing.
 use mathlib.Core.Path.{_≡_, refl, sym, ap, _∙_}
 use mathlib.Core.Bool.{Bool, true, false, cond}
-use mathlib.Core.List.{List, [], _∷_, _++_}
+use mathlib.Core.List.{List, [], _∷_, _++_, map}
 use Prim.Native.Nat.{ℕ, zero, suc, _+_, _<_, _≤_}
 use native.Mathlib.Nat.{mul-pos, not-suc-le-zero}
 use native.Mathlib.Omega.{arith}
@@ -16,7 +16,9 @@ use Rattle.tileset.specs.Finding.{cutTo, tilesIn, foundIn, Looks}
 use Rattle.tileset.specs.Adding.{discards, noRoom, endChecks, oneStored, oneDiscarded, atEnd, addSays, added, storeWith}
 use Rattle.tileset.specs.Matched.{Apart}
 use Rattle.tileset.specs.Keeping.{keep, keepAll, repeats}
-use Rattle.tileset.specs.History.{setTiles, Call, addCall, resetCall, lookCall, Promised, setAfter, storeAfter, lastSet, lastStore, Calls, Since, reset, start, taking, sinceCall, since, addOf, addsOf, setAtEnd, accepted}
+use Rattle.tileset.specs.History.{setTiles, Call, addCall, resetCall, lookCall, Promised, setAfter, storeAfter, lastSet, lastStore, Calls}
+use Rattle.tileset.specs.History.{Since, sinceReset, sinceStart, taking, sinceCall, sinceCalls}
+use Rattle.tileset.specs.History.{Ask, toAdd, toReset, toLook, callOf, callsOf, addsOf, setAtEnd, storeAtEnd, accepted}
 use Rattle.tileset.specs.declared.Set.{Set}
 use Rattle.tileset.proofs.Says.{says, room-left, looks-of}
 use Rattle.tileset.proofs.Stores.{length-cut, length-tiles, tiles-put}
@@ -89,9 +91,14 @@ pub record Stands (z : Set) (t : Since) (x : Set) (s : List ℕ) : Type 0 where
   pub sum : x .stored + x .discarded ≡ t .stored + t .discarded + length (t .taken)
   pub wide : 0 < length (t .taken) → 0 < z .width
 
-pub stands-start : (z : Set) (s : List ℕ) → Stands z (start z s) z s
+pub stands-start : (z : Set) (s : List ℕ) → Stands z (sinceStart z s) z s
 stands-start z s =
     record { same = refl; tiles = refl; count = count-tiles z s; sum = omega arith; wide = λ lt. absurd (not-suc-le-zero lt) }
+
+-- what holds of both holds of the one
+either-one : {A : Type 0} (P : A → Type 0) (n : ℕ) (a b : A) → P a → P b → P (unless n a b)
+either-one P zero a b p q = p
+either-one P (suc n) a b p q = q
 
 module _ (z : Set) where
   -- one more tile
@@ -116,7 +123,7 @@ module _ (z : Set) where
   after-add {x = x} {s} st p zero e = stands-taken st (known x s p e .some) (grown x s p e)
   after-add st p (suc n) e = st
 
-  after-reset : {t : Since} {x : Set} {s : List ℕ} → Stands z t x s → (n : ℕ) → Stands z (unless n reset t) (unless n (emptied x) x) s
+  after-reset : {t : Since} {x : Set} {s : List ℕ} → Stands z t x s → (n : ℕ) → Stands z (unless n sinceReset t) (unless n (emptied x) x) s
   unfolding tilesIn
   after-reset st zero =
       record { same = ap (λ (y : Set). withCounts y 0 0) (st .same); tiles = refl; count = refl; sum = refl; wide = λ lt. absurd (not-suc-le-zero lt) }
@@ -128,25 +135,19 @@ module _ (z : Set) where
   after-call st (lookCall p r) k = st
 
   -- the one induction
-  pub after-calls : {t : Since} {x : Set} {s : List ℕ} → Stands z t x s → (cs : List Call) → Calls x s cs → Stands z (since z t cs) (lastSet x cs) (lastStore s cs)
+  pub after-calls : {t : Since} {x : Set} {s : List ℕ} → Stands z t x s → (cs : List Call) → Calls x s cs → Stands z (sinceCalls z t cs) (lastSet x cs) (lastStore s cs)
   after-calls st [] k = st
   after-calls st (c ∷ cs) k = after-calls (after-call st c (k .0)) cs (k .1)
 
   -- the tiles at the start are still those, or none after a reset
-  reset-or : (P : List (List ℕ) → Type 0) → P [] → (t : Since) → P (t .tiles) → (n : ℕ) → P (unless n reset t .tiles)
-  reset-or P none t here zero = none
-  reset-or P none t here (suc n) = here
+  one-first : (P : List (List ℕ) → Type 0) → P [] → (t : Since) (c : Call) → P (t .tiles) → P (sinceCall z t c .tiles)
+  one-first P none t (addCall p r after) here = either-one (λ (x : Since). P (x .tiles)) (r .refusal) (taking t (cutTo (z .depth) p ∷ [])) t here here
+  one-first P none t (resetCall r) here = either-one (λ (x : Since). P (x .tiles)) (r .refusal) sinceReset t none here
+  one-first P none t (lookCall p r) here = here
 
-  taken-or : (P : List (List ℕ) → Type 0) (t : Since) (p : List ℕ) → P (t .tiles) → (n : ℕ) → P (unless n (taking t (p ∷ [])) t .tiles)
-  taken-or P t p here zero = here
-  taken-or P t p here (suc n) = here
-
-  pub first-tiles : (P : List (List ℕ) → Type 0) → P [] → (t : Since) (cs : List Call) → P (t .tiles) → P (since z t cs .tiles)
+  pub first-tiles : (P : List (List ℕ) → Type 0) → P [] → (t : Since) (cs : List Call) → P (t .tiles) → P (sinceCalls z t cs .tiles)
   first-tiles P none t [] here = here
-  first-tiles P none t (addCall p r after ∷ cs) here =
-      first-tiles P none (sinceCall z t (addCall p r after)) cs (taken-or P t (cutTo (z .depth) p) here (r .refusal))
-  first-tiles P none t (resetCall r ∷ cs) here = first-tiles P none (sinceCall z t (resetCall r)) cs (reset-or P none t here (r .refusal))
-  first-tiles P none t (lookCall p r ∷ cs) here = first-tiles P none t cs here
+  first-tiles P none t (c ∷ cs) here = first-tiles P none (sinceCall z t c) cs (one-first P none t c here)
 
 -- ---- what a caller sees
 
@@ -165,24 +166,30 @@ module _ (z : Set) (t : Since) {x : Set} {s : List ℕ} (st : Stands z t x s) wh
   pub stands-apart : z .discarding ≡ true → Apart (z .flips) (z .width) (z .height) (t .tiles) → Apart (z .flips) (z .width) (z .height) (setTiles x s)
   stands-apart on apart = rw (st .tiles, on) (all-apart (z .flips) (z .width) (z .height) (t .tiles) (t .taken) apart)
 
--- ---- adds alone
+-- ---- the calls as they are promised
 
-pub adds-promised : (z : Set) (s : List ℕ) (ps : List (List ℕ)) → Calls z s (addsOf z s ps)
-adds-promised z s [] = tt
-adds-promised z s (p ∷ ps) = (record { answer = refl; lent = refl }, adds-promised (setAfter z (addOf z s p)) (storeAfter s (addOf z s p)) ps)
+pub call-promised : (z : Set) (s : List ℕ) (a : Ask) → Promised z s (callOf z s a)
+call-promised z s (toAdd p) = record { answer = refl; lent = refl }
+call-promised z s toReset = refl
+call-promised z s (toLook p) = refl
 
+pub calls-promised : (z : Set) (s : List ℕ) (asks : List Ask) → Calls z s (callsOf z s asks)
+calls-promised z s [] = tt
+calls-promised z s (a ∷ rest) = (call-promised z s a, calls-promised (setAfter z (callOf z s a)) (storeAfter s (callOf z s a)) rest)
+
+-- adds alone
 abbrev startSum : Since → ℕ
 startSum t = t .stored + t .discarded
 
-same-start : (t : Since) (p : List ℕ) (n : ℕ) → startSum (unless n (taking t (p ∷ [])) t) ≡ startSum t
-same-start t p zero = refl
-same-start t p (suc n) = refl
-
-adds-start : (x : Set) (t : Since) (z : Set) (s : List ℕ) (ps : List (List ℕ)) → startSum (since x t (addsOf z s ps)) ≡ startSum t
+adds-start : (x : Set) (t : Since) (z : Set) (s : List ℕ) (ps : List (List ℕ)) → startSum (sinceCalls x t (addsOf z s ps)) ≡ startSum t
 adds-start x t z s [] = refl
 adds-start x t z s (p ∷ ps) =
-    adds-start x (sinceCall x t (addOf z s p)) (setAfter z (addOf z s p)) (storeAfter s (addOf z s p)) ps ∙ same-start t (cutTo (x .depth) p) (addSays z s p)
+    let c = callOf z s (toAdd p) in
+    adds-start x (sinceCall x t c) (setAfter z c) (storeAfter s c) ps
+    ∙ either-one (λ (y : Since). startSum y ≡ startSum t) (addSays z s p) (taking t (cutTo (x .depth) p ∷ [])) t refl refl
+
+pub adds-stand : (z : Set) (s : List ℕ) (ps : List (List ℕ)) → Stands z (sinceCalls z (sinceStart z s) (addsOf z s ps)) (setAtEnd z s ps) (storeAtEnd z s ps)
+adds-stand z s ps = after-calls z (stands-start z s) (addsOf z s ps) (calls-promised z s (map toAdd ps))
 
 pub adds-sum : (z : Set) (s : List ℕ) (ps : List (List ℕ)) → setAtEnd z s ps .stored + setAtEnd z s ps .discarded ≡ z .stored + z .discarded + accepted z s ps
-adds-sum z s ps =
-    omega (arith, after-calls z (stands-start z s) (addsOf z s ps) (adds-promised z s ps) .sum, adds-start z (start z s) z s ps)
+adds-sum z s ps = omega (arith, adds-stand z s ps .sum, adds-start z (sinceStart z s) z s ps)

@@ -203,14 +203,14 @@ module _ (on : Bool) (w h : ℕ) where
   none-discarded ts = refl
 
   module _ (z : 0 < w) where
-    one-need : (b : Bool) (st seen : List (List ℕ)) (t : List ℕ) (ts : List (List ℕ)) → matchesSome on w h st t ≡ b → Alike on w h z st seen
-        → ((st seen : List (List ℕ)) → Alike on w h z st seen → length (keepAll true on w h st ts) ≡ length st + fresh on w h seen ts)
+    one-need : (b : Bool) (st seen : List (List ℕ)) (t : List ℕ) (ts : List (List ℕ)) → matchesSome on w h st t ≡ b → Alike on w h st seen
+        → ((st seen : List (List ℕ)) → Alike on w h st seen → length (keepAll true on w h st ts) ≡ length st + fresh on w h seen ts)
         → length (keepAll true on w h (cond b st (st ++ t ∷ [])) ts) ≡ length st + (bit (not b) + fresh on w h (seen ++ t ∷ []) ts)
     one-need true st seen t ts e same rest = omega (arith, rest st (seen ++ t ∷ []) (alike-gone on w h z st seen t same e))
     one-need false st seen t ts e same rest =
-        omega (arith, rest (st ++ t ∷ []) (seen ++ t ∷ []) (alike-kept on w h z st seen t same), length-append st (t ∷ []))
+        omega (arith, rest (st ++ t ∷ []) (seen ++ t ∷ []) (alike-kept on w h st seen t same), length-append st (t ∷ []))
 
-    all-need : (st seen ts : List (List ℕ)) → Alike on w h z st seen → length (keepAll true on w h st ts) ≡ length st + fresh on w h seen ts
+    all-need : (st seen ts : List (List ℕ)) → Alike on w h st seen → length (keepAll true on w h st ts) ≡ length st + fresh on w h seen ts
     unfolding keep
     all-need st seen [] same = omega arith
     all-need st seen (t ∷ ts) same =

@@ -2,7 +2,7 @@
 -- Assumes nothing.
 use mathlib.Core.Path.{_≡_, refl, sym, ap, _∙_}
 use mathlib.Core.Bool.{Bool, true}
-use mathlib.Core.List.{List, [], _∷_, _++_}
+use mathlib.Core.List.{List, [], _∷_, _++_, map}
 use Prim.Native.Nat.{ℕ, _+_, _-_, _*_, _/_, _<_, _≤_}
 use native.Mathlib.Omega.{arith}
 use lib.ListN.{length}
@@ -13,7 +13,8 @@ use Rattle.tileset.specs.Matched.{Apart}
 use Rattle.tileset.specs.Keeping.{keepAll, repeats}
 use Rattle.tileset.specs.Numbers.{rowCells, firstCell, Grid}
 use Rattle.tileset.specs.Reading.{readCount, readableSays, readSet, Reads}
-use Rattle.tileset.specs.History.{setTiles, Call, addCall, resetCall, lookCall, Promised, numberOf, setAfter, storeAfter, lastSet, lastStore, Calls, Since, reset, start, tilesRead, read, since}
+use Rattle.tileset.specs.History.{setTiles, Call, addCall, resetCall, lookCall, Promised, numberOf, setAfter, storeAfter, lastSet, lastStore, Calls}
+use Rattle.tileset.specs.History.{Since, sinceReset, sinceStart, tilesRead, sinceRead, sinceCall, sinceCalls, asked, callOf, callsOf}
 use Rattle.tileset.specs.declared.Set.{Set}
 use Rattle.tileset.specs.declared.SetAnswer.{SetAnswer}
 use Rattle.tileset.proofs.Says.{says}
@@ -52,9 +53,9 @@ call-refused z s (lookCall p r) k some = (refl, refl)
 -- ---- "Over any adds since the last reset, store, state and settings else unchanged": over any calls, refused ones and look-ups among them
 
 -- first is what is counted by at the start: `start z s` of any set, `read ..` of one that was read
-module _ (z : Set) (s : List ℕ) (first : Since) (from : first ≡ start z s) (cs : List Call) (k : Calls z s cs) where
+module _ (z : Set) (s : List ℕ) (first : Since) (from : first ≡ sinceStart z s) (cs : List Call) (k : Calls z s cs) where
   abbrev t : Since
-  t = since z first cs
+  t = sinceCalls z first cs
 
   abbrev end : Set
   end = lastSet z cs
@@ -70,25 +71,37 @@ module _ (z : Set) (s : List ℕ) (first : Since) (from : first ≡ start z s) (
   pub calls-discarded : end .discarded ≡ t .discarded + repeats (z .discarding) (z .flips) (z .width) (z .height) (t .tiles) (t .taken)
   calls-discarded = stands-discarded z t stands
 
-  -- with discarding on, no two stored tiles match, where none did at the start
-  pub calls-apart : z .discarding ≡ true → Apart (z .flips) (z .width) (z .height) (first .tiles)
+  -- with discarding on, no two stored tiles match, where none did at the start, or at the last reset, when there are none
+  pub calls-apart : z .discarding ≡ true → Apart (z .flips) (z .width) (z .height) (t .tiles)
       → Apart (z .flips) (z .width) (z .height) (setTiles end (lastStore s cs))
-  calls-apart on apart =
-      stands-apart z t stands on (first-tiles z (Apart (z .flips) (z .width) (z .height)) (apart-none (z .flips) (z .width) (z .height)) first cs apart)
+  calls-apart = stands-apart z t stands
+
+  pub first-apart : Apart (z .flips) (z .width) (z .height) (first .tiles) → Apart (z .flips) (z .width) (z .height) (t .tiles)
+  first-apart = first-tiles z (Apart (z .flips) (z .width) (z .height)) (apart-none (z .flips) (z .width) (z .height)) first cs
 
   -- the stored tiles are what is kept of the tiles accepted
   pub calls-tiles : setTiles end (lastStore s cs) ≡ keepAll (z .discarding) (z .flips) (z .width) (z .height) (t .tiles) (t .taken)
   calls-tiles = stands .tiles
 
 -- calls after calls, and what is counted from a reset on: whatever came before it does not count
-pub since-append : (z : Set) (t : Since) (xs ys : List Call) → since z t (xs ++ ys) ≡ since z (since z t xs) ys
+pub since-append : (z : Set) (t : Since) (xs ys : List Call) → sinceCalls z t (xs ++ ys) ≡ sinceCalls z (sinceCalls z t xs) ys
 since-append z t [] ys = refl
-since-append z t (addCall p r after ∷ xs) ys = since-append z _ xs ys
-since-append z t (resetCall r ∷ xs) ys = since-append z _ xs ys
-since-append z t (lookCall p r ∷ xs) ys = since-append z _ xs ys
+since-append z t (x ∷ xs) ys = since-append z (sinceCall z t x) xs ys
 
-pub since-reset : (z : Set) (t : Since) (r : SetAnswer) (cs : List Call) → r .refusal ≡ 0 → since z t (resetCall r ∷ cs) ≡ since z reset cs
-since-reset z t r cs e = ap (λ (x : Since). since z x cs) (when-done (r .refusal) reset t e)
+pub since-reset : (z : Set) (t : Since) (r : SetAnswer) (cs : List Call) → r .refusal ≡ 0 → sinceCalls z t (resetCall r ∷ cs) ≡ sinceCalls z sinceReset cs
+since-reset z t r cs e = ap (λ (x : Since). sinceCalls z x cs) (when-done (r .refusal) sinceReset t e)
+
+-- "one possible answer and one content of lent memory": calls that kept their promises are those that what was asked leaves
+pub call-only : (z : Set) (s : List ℕ) (c : Call) → Promised z s c → c ≡ callOf z s (asked c)
+call-only z s (addCall p r after) k = rw (k .answer, k .lent)
+call-only z s (resetCall r) k = ap resetCall k
+call-only z s (lookCall p r) k = ap (lookCall p) k
+
+pub calls-only : (z : Set) (s : List ℕ) (cs : List Call) → Calls z s cs → cs ≡ callsOf z s (map asked cs)
+calls-only z s [] k = refl
+calls-only z s (c ∷ cs) k =
+    ap (λ (l : List Call). c ∷ l) (calls-only (setAfter z c) (storeAfter s c) cs (k .1))
+    ∙ ap (λ (x : Call). x ∷ callsOf (setAfter z x) (storeAfter s x) (map asked cs)) (call-only z s c (k .0))
 
 -- ---- a set that was read
 
@@ -104,7 +117,7 @@ module _ (m d w h : ℕ) (flips : Bool) (bytes store : List ℕ) {r : SetAnswer}
       ∙ tiles-read m d w h bytes store
 
   -- "its sum starts from the count read", and the tiles read count as seen: the laws of calls take this
-  pub read-start : read m d w h bytes ≡ start (r .set) after
+  pub read-start : sinceRead m d w h bytes ≡ sinceStart (r .set) after
   read-start =
       sym
       (ap (λ (x : Set). record { stored = x .stored; discarded = x .discarded; tiles = setTiles (r .set) after; taken = [] }) read-set

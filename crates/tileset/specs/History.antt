@@ -2,7 +2,7 @@
 -- of those whose tile matched one read or accepted earlier (0 with discarding off)": what a caller counts by, over calls as it sees them.
 -- Assumes nothing.
 use mathlib.Core.Path.{_≡_}
-use mathlib.Core.List.{List, [], _∷_, _++_}
+use mathlib.Core.List.{List, [], _∷_, _++_, map}
 use Prim.Native.Nat.{ℕ, zero, suc}
 use lib.ListN.{length}
 use Rattle.words.specs.Answers.{unless}
@@ -68,19 +68,19 @@ pub record Since : Type 0 where
   pub tiles : List (List ℕ)
   pub taken : List (List ℕ)
 
-abbrev pub reset : Since
-reset = record { stored = 0; discarded = 0; tiles = []; taken = [] }
+abbrev pub sinceReset : Since
+sinceReset = record { stored = 0; discarded = 0; tiles = []; taken = [] }
 
-abbrev pub start : Set → List ℕ → Since
-start z store = record { stored = z .stored; discarded = z .discarded; tiles = setTiles z store; taken = [] }
+abbrev pub sinceStart : Set → List ℕ → Since
+sinceStart z store = record { stored = z .stored; discarded = z .discarded; tiles = setTiles z store; taken = [] }
 
 -- "Its sum starts from the count read": a set that was read starts with the tiles read.
 abbrev pub tilesRead : ℕ → ℕ → ℕ → ℕ → List ℕ → ℕ → List (List ℕ)
 tilesRead m d w h bytes zero = []
 tilesRead m d w h bytes (suc n) = tilesRead m d w h bytes n ++ tileIn m d w h bytes n ∷ []
 
-abbrev pub read : ℕ → ℕ → ℕ → ℕ → List ℕ → Since
-read m d w h bytes =
+abbrev pub sinceRead : ℕ → ℕ → ℕ → ℕ → List ℕ → Since
+sinceRead m d w h bytes =
     let count = readCount m d w h (length bytes) in
     record { stored = count; discarded = 0; tiles = tilesRead m d w h bytes count; taken = [] }
 
@@ -89,20 +89,37 @@ taking t tiles = record { stored = t .stored; discarded = t .discarded; tiles = 
 
 abbrev pub sinceCall : Set → Since → Call → Since
 sinceCall z t (addCall p r after) = unless (r .refusal) (taking t (cutTo (z .depth) p ∷ [])) t
-sinceCall z t (resetCall r) = unless (r .refusal) reset t
+sinceCall z t (resetCall r) = unless (r .refusal) sinceReset t
 sinceCall z t (lookCall p r) = t
 
-abbrev pub since : Set → Since → List Call → Since
-since z t [] = t
-since z t (c ∷ cs) = since z (sinceCall z t c) cs
+abbrev pub sinceCalls : Set → Since → List Call → Since
+sinceCalls z t [] = t
+sinceCalls z t (c ∷ cs) = sinceCalls z (sinceCall z t c) cs
 
--- The calls that add some tiles one after the other, the set and the store after them, and how many are answered 0.
-abbrev pub addOf : Set → List ℕ → List ℕ → Call
-addOf z store p = addCall p (answeredSet (addSays z store p) (added z store p) z) (unless (addSays z store p) (storeWith z store p) store)
+-- What a call asks, and the one call that answers it as promised; and some.
+pub data Ask : Type 0 where
+  toAdd : List ℕ → Ask
+  toReset : Ask
+  toLook : List ℕ → Ask
 
+abbrev pub asked : Call → Ask
+asked (addCall p r after) = toAdd p
+asked (resetCall r) = toReset
+asked (lookCall p r) = toLook p
+
+abbrev pub callOf : Set → List ℕ → Ask → Call
+callOf z store (toAdd p) =
+    addCall p (answeredSet (addSays z store p) (added z store p) z) (unless (addSays z store p) (storeWith z store p) store)
+callOf z store toReset = resetCall (answeredSet (setSays (z .mode) (z .depth) (z .width) (z .height)) (emptied z) z)
+callOf z store (toLook p) = lookCall p (placed (lookSays z (length store) (length p)) (foundIn z store p))
+
+abbrev pub callsOf : Set → List ℕ → List Ask → List Call
+callsOf z store [] = []
+callsOf z store (a ∷ rest) = callOf z store a ∷ callsOf (setAfter z (callOf z store a)) (storeAfter store (callOf z store a)) rest
+
+-- Some tiles added one after the other: the set and the store after them, and how many adds are answered 0.
 abbrev pub addsOf : Set → List ℕ → List (List ℕ) → List Call
-addsOf z store [] = []
-addsOf z store (p ∷ ps) = addOf z store p ∷ addsOf (setAfter z (addOf z store p)) (storeAfter store (addOf z store p)) ps
+addsOf z store ps = callsOf z store (map toAdd ps)
 
 abbrev pub setAtEnd : Set → List ℕ → List (List ℕ) → Set
 setAtEnd z store ps = lastSet z (addsOf z store ps)
@@ -111,4 +128,4 @@ abbrev pub storeAtEnd : Set → List ℕ → List (List ℕ) → List ℕ
 storeAtEnd z store ps = lastStore store (addsOf z store ps)
 
 abbrev pub accepted : Set → List ℕ → List (List ℕ) → ℕ
-accepted z store ps = length (since z (start z store) (addsOf z store ps) .taken)
+accepted z store ps = length (sinceCalls z (sinceStart z store) (addsOf z store ps) .taken)
