@@ -1,195 +1,195 @@
--- The history sum, and that no two stored tiles match, over any adds.
+-- Over any calls on a set, what it stores is what is kept of the tiles accepted, and its counts are theirs.
 -- Assumes nothing.
 use mathlib.Core.Path.{_≡_, refl, sym, ap, _∙_}
-use mathlib.Core.Bool.{Bool, true, false, cond, _&&_}
-use mathlib.Core.List.{List, [], _∷_, _++_}
-use Prim.Native.Nat.{ℕ, zero, suc, _+_, _*_, _<_}
-use native.Mathlib.Nat.{mul-pos}
+use mathlib.Core.Bool.{Bool, true, false, cond}
+use mathlib.Core.List.{List, [], _∷_, _++_, map}
+use Prim.Native.Nat.{ℕ, zero, suc, _+_, _<_, _≤_}
+use native.Mathlib.Nat.{mul-pos, not-suc-le-zero}
 use native.Mathlib.Omega.{arith}
-use lib.Dec.{leb}
-use lib.ListN.{length}
-use lib.Seq.{sets}
+use lib.ListN.{length, length-append}
+use lib.Seq.{length-sets}
 use borrow.Author.Tests.{leb-false}
 use Rattle.words.specs.Answers.{unless}
-use Rattle.words.specs.Bytes.{bit}
 use Rattle.words.proofs.Answers.{all-passed, not-given}
-use Rattle.tileset.specs.Sets.{area, roomIn, lookSays}
-use Rattle.tileset.specs.Finding.{cutTo, foundIn, isFound, Looks}
-use Rattle.tileset.specs.Adding.{discards, oneStored, oneDiscarded, endChecks, addSays, added, storeWith}
-use Rattle.tileset.specs.Matched.{matchesSome, Apart}
-use Rattle.tileset.specs.History.{setAfter, storeAfter, setAtEnd, storeAtEnd, accepted, repeats, setTiles}
+use Rattle.tileset.specs.Sets.{area, roomIn, lookSays, withCounts, emptied}
+use Rattle.tileset.specs.Finding.{cutTo, tilesIn, foundIn, Looks}
+use Rattle.tileset.specs.Adding.{discards, noRoom, endChecks, oneStored, oneDiscarded, atEnd, addSays, added, storeWith}
+use Rattle.tileset.specs.Matched.{Apart}
+use Rattle.tileset.specs.Keeping.{keep, keepAll, repeats}
+use Rattle.tileset.specs.History.{setTiles, Call, addCall, resetCall, lookCall, Promised, setAfter, storeAfter, lastSet, lastStore, Calls}
+use Rattle.tileset.specs.History.{Since, sinceReset, sinceStart, taking, sinceCall, sinceCalls}
+use Rattle.tileset.specs.History.{Ask, toAdd, toReset, toLook, callOf, callsOf, addsOf, setAtEnd, storeAtEnd, accepted}
 use Rattle.tileset.specs.declared.Set.{Set}
-use Rattle.tileset.proofs.Says.{room-left, looks-of}
-use Rattle.tileset.proofs.Stores.{length-cut, tiles-put}
-use Rattle.tileset.proofs.AddingLaws.{discards-off, says-first, add-says, added-is, with-is}
-use Rattle.tileset.proofs.Matched.{look-some, alike-kept, alike-gone, apart-more}
+use Rattle.tileset.proofs.Says.{says, room-left, looks-of}
+use Rattle.tileset.proofs.Stores.{length-cut, length-tiles, tiles-put}
+use Rattle.tileset.proofs.AddingLaws.{says-first, add-says, added-is, with-is}
+use Rattle.tileset.proofs.Matched.{apart-none}
+use Rattle.tileset.proofs.Keeping.{keep-append, kept-count, all-apart}
 
--- ---- stored + discarded = adds answered 0
+pub count-tiles : (z : Set) (s : List ℕ) → length (setTiles z s) ≡ z .stored
+unfolding tilesIn
+count-tiles z s = length-tiles (area z) s 0 (z .stored)
 
-either-sum : (z : Set) (b : Bool) → cond b (oneDiscarded z) (oneStored z) .stored + cond b (oneDiscarded z) (oneStored z) .discarded ≡ z .stored + z .discarded + 1
-either-sum z true = omega arith
-either-sum z false = omega arith
+-- ---- an add that is answered 0
 
-one-sum : (z : Set) (s p : List ℕ) (n : ℕ) → unless n (added z s p) z .stored + unless n (added z s p) z .discarded ≡ z .stored + z .discarded + unless n 1 0
-unfolding added
-one-sum z s p zero = either-sum z (discards z (foundIn z s p))
-one-sum z s p (suc n) = omega arith
+-- the set and the store that it leaves
+pub record Grown (z : Set) (s p : List ℕ) (next : Set) (store : List ℕ) : Type 0 where
+  pub same : next ≡ withCounts z (next .stored) (next .discarded)
+  pub tiles : setTiles next store ≡ keep (z .discarding) (z .flips) (z .width) (z .height) (setTiles z s) (cutTo (z .depth) p)
+  pub sum : next .stored + next .discarded ≡ z .stored + z .discarded + 1
+  pub few : next .discarded ≤ z .discarded + 1
+  pub long : length store ≡ length s
+
+module _ (z : Set) (s p : List ℕ) where
+  pub keep-is : keep (z .discarding) (z .flips) (z .width) (z .height) (setTiles z s) (cutTo (z .depth) p)
+      ≡ cond (discards z (foundIn z s p)) (setTiles z s) (setTiles z s ++ cutTo (z .depth) p ∷ [])
+  unfolding keep foundIn
+  keep-is = refl
+
+  module _ (done : addSays z s p ≡ 0) where
+    fine : lookSays z (length s) (length p) ≡ 0
+    fine = all-passed (lookSays z (length s) (length p) ∷ endChecks z (foundIn z s p) (roomIn z (length s))) (sym (says-first z s p) ∙ done) 0
+
+    pub known : Looks z s p
+    known = looks-of z s p fine
+
+    grown-by : (d : Bool) → discards z (foundIn z s p) ≡ d → Grown z s p (cond d (oneDiscarded z) (oneStored z)) (cond d s (atEnd z s p))
+    grown-by true e =
+        record {
+          same = refl;
+          tiles = sym (keep-is ∙ ap (λ (b : Bool). cond b (setTiles z s) (setTiles z s ++ cutTo (z .depth) p ∷ [])) e);
+          sum = omega arith;
+          few = omega arith;
+          long = refl;
+        }
+    grown-by false e =
+        let some : z .stored < roomIn z (length s) =
+        leb-false (roomIn z (length s)) (z .stored) (not-given 11 (noRoom z (roomIn z (length s))) (sym (add-says z s p false e fine) ∙ done)) in
+        record {
+          same = refl;
+          tiles =
+              tiles-put (area z) s (cutTo (z .depth) p) (z .stored)
+              (room-left (z .limit) (length s) (area z) (z .stored) (mul-pos (known .some) (known .tall)) some) (length-cut (z .depth) p ∙ known .whole)
+              ∙ sym (keep-is ∙ ap (λ (b : Bool). cond b (setTiles z s) (setTiles z s ++ cutTo (z .depth) p ∷ [])) e);
+          sum = omega arith;
+          few = omega arith;
+          long = length-sets s _ (cutTo (z .depth) p);
+        }
+
+    pub grown : Grown z s p (added z s p) (storeWith z s p)
+    grown =
+        let d = discards z (foundIn z s p) in
+        rw (added-is z s p d refl, with-is z s p d refl) (grown-by d refl)
+
+-- ---- any calls
+
+-- how a set with the settings of z, and its store, stand to what is counted
+pub record Stands (z : Set) (t : Since) (x : Set) (s : List ℕ) : Type 0 where
+  pub same : x ≡ withCounts z (x .stored) (x .discarded)
+  pub tiles : setTiles x s ≡ keepAll (z .discarding) (z .flips) (z .width) (z .height) (t .tiles) (t .taken)
+  pub count : length (t .tiles) ≡ t .stored
+  pub sum : x .stored + x .discarded ≡ t .stored + t .discarded + length (t .taken)
+  pub wide : 0 < length (t .taken) → 0 < z .width
+
+pub stands-start : (z : Set) (s : List ℕ) → Stands z (sinceStart z s) z s
+stands-start z s =
+    record { same = refl; tiles = refl; count = count-tiles z s; sum = omega arith; wide = λ lt. absurd (not-suc-le-zero lt) }
+
+-- what holds of both holds of the one
+either-one : {A : Type 0} (P : A → Type 0) (n : ℕ) (a b : A) → P a → P b → P (unless n a b)
+either-one P zero a b p q = p
+either-one P (suc n) a b p q = q
+
+module _ (z : Set) where
+  -- one more tile
+  stands-taken : {t : Since} {x : Set} {s p : List ℕ} {next : Set} {store : List ℕ} → Stands z t x s → 0 < x .width → Grown x s p next store
+      → Stands z (taking t (cutTo (z .depth) p ∷ [])) next store
+  stands-taken {t} {x} {s} {p} {next} {store} st wide g =
+      let tile = cutTo (z .depth) p in
+      record {
+        same = g .same ∙ ap (λ (y : Set). withCounts y (next .stored) (next .discarded)) (st .same);
+        tiles =
+            g .tiles
+            ∙ ap (λ (y : Set). keep (y .discarding) (y .flips) (y .width) (y .height) (setTiles x s) (cutTo (y .depth) p)) (st .same)
+            ∙ ap (λ (l : List (List ℕ)). keep (z .discarding) (z .flips) (z .width) (z .height) l tile) (st .tiles)
+            ∙ sym (keep-append (z .discarding) (z .flips) (z .width) (z .height) (t .tiles) (t .taken) (tile ∷ []));
+        count = st .count;
+        sum = omega (arith, g .sum, st .sum, length-append (t .taken) (tile ∷ []));
+        wide = λ lt. omega (arith, wide, ap (λ (y : Set). y .width) (st .same));
+      }
+
+  after-add : {t : Since} {x : Set} {s : List ℕ} → Stands z t x s → (p : List ℕ) (n : ℕ) → addSays x s p ≡ n
+      → Stands z (unless n (taking t (cutTo (z .depth) p ∷ [])) t) (unless n (added x s p) x) (unless n (storeWith x s p) s)
+  after-add {x = x} {s} st p zero e = stands-taken st (known x s p e .some) (grown x s p e)
+  after-add st p (suc n) e = st
+
+  after-reset : {t : Since} {x : Set} {s : List ℕ} → Stands z t x s → (n : ℕ) → Stands z (unless n sinceReset t) (unless n (emptied x) x) s
+  unfolding tilesIn
+  after-reset st zero =
+      record { same = ap (λ (y : Set). withCounts y 0 0) (st .same); tiles = refl; count = refl; sum = refl; wide = λ lt. absurd (not-suc-le-zero lt) }
+  after-reset st (suc n) = st
+
+  after-call : {t : Since} {x : Set} {s : List ℕ} → Stands z t x s → (c : Call) → Promised x s c → Stands z (sinceCall z t c) (setAfter x c) (storeAfter s c)
+  after-call {x = x} {s} st (addCall p r after) k = rw (k .answer, k .lent) (after-add st p (addSays x s p) refl)
+  after-call {x = x} st (resetCall r) k = rw k (after-reset st (says x))
+  after-call st (lookCall p r) k = st
+
+  -- the one induction
+  pub after-calls : {t : Since} {x : Set} {s : List ℕ} → Stands z t x s → (cs : List Call) → Calls x s cs → Stands z (sinceCalls z t cs) (lastSet x cs) (lastStore s cs)
+  after-calls st [] k = st
+  after-calls st (c ∷ cs) k = after-calls (after-call st c (k .0)) cs (k .1)
+
+  -- the tiles at the start are still those, or none after a reset
+  one-first : (P : List (List ℕ) → Type 0) → P [] → (t : Since) (c : Call) → P (t .tiles) → P (sinceCall z t c .tiles)
+  one-first P none t (addCall p r after) here = either-one (λ (x : Since). P (x .tiles)) (r .refusal) (taking t (cutTo (z .depth) p ∷ [])) t here here
+  one-first P none t (resetCall r) here = either-one (λ (x : Since). P (x .tiles)) (r .refusal) sinceReset t none here
+  one-first P none t (lookCall p r) here = here
+
+  pub first-tiles : (P : List (List ℕ) → Type 0) → P [] → (t : Since) (cs : List Call) → P (t .tiles) → P (sinceCalls z t cs .tiles)
+  first-tiles P none t [] here = here
+  first-tiles P none t (c ∷ cs) here = first-tiles P none (sinceCall z t c) cs (one-first P none t c here)
+
+-- ---- what a caller sees
+
+module _ (z : Set) (t : Since) {x : Set} {s : List ℕ} (st : Stands z t x s) where
+  pub stands-discarded : x .discarded ≡ t .discarded + repeats (z .discarding) (z .flips) (z .width) (z .height) (t .tiles) (t .taken)
+  stands-discarded =
+      omega (
+        arith,
+        st .sum,
+        st .count,
+        count-tiles x s,
+        ap (λ (l : List (List ℕ)). length l) (st .tiles),
+        kept-count (z .flips) (z .width) (z .height) (z .discarding) (t .tiles) (t .taken) (st .wide),
+      )
+
+  pub stands-apart : z .discarding ≡ true → Apart (z .flips) (z .width) (z .height) (t .tiles) → Apart (z .flips) (z .width) (z .height) (setTiles x s)
+  stands-apart on apart = rw (st .tiles, on) (all-apart (z .flips) (z .width) (z .height) (t .tiles) (t .taken) apart)
+
+-- ---- the calls as they are promised
+
+pub call-promised : (z : Set) (s : List ℕ) (a : Ask) → Promised z s (callOf z s a)
+call-promised z s (toAdd p) = record { answer = refl; lent = refl }
+call-promised z s toReset = refl
+call-promised z s (toLook p) = refl
+
+pub calls-promised : (z : Set) (s : List ℕ) (asks : List Ask) → Calls z s (callsOf z s asks)
+calls-promised z s [] = tt
+calls-promised z s (a ∷ rest) = (call-promised z s a, calls-promised (setAfter z (callOf z s a)) (storeAfter s (callOf z s a)) rest)
+
+-- adds alone
+abbrev startSum : Since → ℕ
+startSum t = t .stored + t .discarded
+
+adds-start : (x : Set) (t : Since) (z : Set) (s : List ℕ) (ps : List (List ℕ)) → startSum (sinceCalls x t (addsOf z s ps)) ≡ startSum t
+adds-start x t z s [] = refl
+adds-start x t z s (p ∷ ps) =
+    let c = callOf z s (toAdd p) in
+    adds-start x (sinceCall x t c) (setAfter z c) (storeAfter s c) ps
+    ∙ either-one (λ (y : Since). startSum y ≡ startSum t) (addSays z s p) (taking t (cutTo (x .depth) p ∷ [])) t refl refl
+
+pub adds-stand : (z : Set) (s : List ℕ) (ps : List (List ℕ)) → Stands z (sinceCalls z (sinceStart z s) (addsOf z s ps)) (setAtEnd z s ps) (storeAtEnd z s ps)
+adds-stand z s ps = after-calls z (stands-start z s) (addsOf z s ps) (calls-promised z s (map toAdd ps))
 
 pub adds-sum : (z : Set) (s : List ℕ) (ps : List (List ℕ)) → setAtEnd z s ps .stored + setAtEnd z s ps .discarded ≡ z .stored + z .discarded + accepted z s ps
-adds-sum z s [] = omega arith
-adds-sum z s (p ∷ ps) = omega (arith, one-sum z s p (addSays z s p), adds-sum (setAfter z s p) (storeAfter z s p) ps)
-
--- ---- what an add that is answered 0 did
-
-module _ (z : Set) (s p : List ℕ) (done : addSays z s p ≡ 0) where
-  fine : lookSays z (length s) (length p) ≡ 0
-  fine = all-passed (lookSays z (length s) (length p) ∷ endChecks z (foundIn z s p) (roomIn z (length s))) (sym (says-first z s p) ∙ done) 0
-
-  pub known : Looks z s p
-  known = looks-of z s p fine
-
-  tile-long : length (cutTo (z .depth) p) ≡ area z
-  tile-long = length-cut (z .depth) p ∙ known .whole
-
-  pub found-is : isFound (foundIn z s p) ≡ matchesSome (z .flips) (z .width) (z .height) (setTiles z s) (cutTo (z .depth) p)
-  unfolding foundIn
-  found-is = look-some (z .flips) (z .width) (z .height) (setTiles z s) (cutTo (z .depth) p)
-
-  module _ (e : discards z (foundIn z s p) ≡ false) where
-    has-room : z .stored < roomIn z (length s)
-    has-room =
-        leb-false (roomIn z (length s)) (z .stored) (not-given 11 (leb (roomIn z (length s)) (z .stored)) (sym (add-says z s p false e fine) ∙ done))
-
-    kept-tiles : setTiles (added z s p) (storeWith z s p) ≡ setTiles z s ++ cutTo (z .depth) p ∷ []
-    kept-tiles =
-        let put = sets s (z .stored * area z) (cutTo (z .depth) p) in
-        ap (λ (x : Set). setTiles x (storeWith z s p)) (added-is z s p false e)
-        ∙ ap (λ (l : List ℕ). setTiles (oneStored z) l) (with-is z s p false e)
-        ∙ tiles-put (area z) s (cutTo (z .depth) p) (z .stored)
-        (room-left (z .limit) (length s) (area z) (z .stored) (mul-pos (known .some) (known .tall)) has-room) tile-long
-
-  gone-tiles : discards z (foundIn z s p) ≡ true → setTiles (added z s p) (storeWith z s p) ≡ setTiles z s
-  gone-tiles e =
-      ap (λ (x : Set). setTiles x (storeWith z s p)) (added-is z s p true e) ∙ ap (λ (l : List ℕ). setTiles (oneDiscarded z) l) (with-is z s p true e)
-
--- with discarding on, a tile is discarded exactly where it matches a stored one
-discards-is : (z : Set) (s p : List ℕ) → z .discarding ≡ true → discards z (foundIn z s p) ≡ matchesSome (z .flips) (z .width) (z .height) (setTiles z s) (cutTo (z .depth) p)
-unfolding foundIn
-discards-is z s p on =
-    ap (λ (b : Bool). b && isFound (foundIn z s p)) on ∙ look-some (z .flips) (z .width) (z .height) (setTiles z s) (cutTo (z .depth) p)
-
--- ---- no two stored tiles match
-
-abbrev SetApart : Set → List ℕ → Type 0
-SetApart z s = Apart (z .flips) (z .width) (z .height) (setTiles z s)
-
--- the settings stay
-abbrev Settled : Set → Set → Type 0
-Settled z x = (x .flips ≡ z .flips) × (x .width ≡ z .width) × (x .height ≡ z .height) × (x .discarding ≡ z .discarding)
-
-either-settled : (z : Set) (b : Bool) → Settled z (cond b (oneDiscarded z) (oneStored z))
-either-settled z true = (refl, refl, refl, refl)
-either-settled z false = (refl, refl, refl, refl)
-
-settled : (z : Set) (s p : List ℕ) → Settled z (added z s p)
-unfolding added
-settled z s p = either-settled z (discards z (foundIn z s p))
-
-apart-as : (z x : Set) (tiles : List (List ℕ)) → Settled z x → Apart (z .flips) (z .width) (z .height) tiles → Apart (x .flips) (x .width) (x .height) tiles
-apart-as z x tiles q a = rw (q .0, q .1, q .2) a
-
-one-apart : (z : Set) (s p : List ℕ) (b : Bool) → addSays z s p ≡ 0 → z .discarding ≡ true → discards z (foundIn z s p) ≡ b → SetApart z s → SetApart (added z s p) (storeWith z s p)
-one-apart z s p true done on e a =
-    apart-as z (added z s p) (setTiles (added z s p) (storeWith z s p)) (settled z s p) (rw (gone-tiles z s p done e) a)
-one-apart z s p false done on e a =
-    apart-as z (added z s p) (setTiles (added z s p) (storeWith z s p)) (settled z s p)
-    (rw (kept-tiles z s p done e) (apart-more (z .flips) (z .width) (z .height) (setTiles z s) (cutTo (z .depth) p) (sym (discards-is z s p on) ∙ e) a))
-
-after-apart : (z : Set) (s p : List ℕ) (n : ℕ) → addSays z s p ≡ n → z .discarding ≡ true → SetApart z s → SetApart (unless n (added z s p) z) (unless n (storeWith z s p) s)
-after-apart z s p zero e on a = one-apart z s p (discards z (foundIn z s p)) e on refl a
-after-apart z s p (suc n) e on a = a
-
--- kept by an add, refused or not
-pub add-apart : (z : Set) (s p : List ℕ) → z .discarding ≡ true → Apart (z .flips) (z .width) (z .height) (setTiles z s)
-    → Apart (setAfter z s p .flips) (setAfter z s p .width) (setAfter z s p .height) (setTiles (setAfter z s p) (storeAfter z s p))
-add-apart z s p on a = after-apart z s p (addSays z s p) refl on a
-
-still-on : (z : Set) (s p : List ℕ) (n : ℕ) → unless n (added z s p) z .discarding ≡ z .discarding
-still-on z s p zero = settled z s p .3
-still-on z s p (suc n) = refl
-
--- and so by any adds to a set with no tiles
-pub adds-apart : (z : Set) (s : List ℕ) (ps : List (List ℕ)) → z .discarding ≡ true → SetApart z s
-    → SetApart (setAtEnd z s ps) (storeAtEnd z s ps)
-adds-apart z s [] on a = a
-adds-apart z s (p ∷ ps) on a =
-    adds-apart (setAfter z s p) (storeAfter z s p) ps (still-on z s p (addSays z s p) ∙ on) (add-apart z s p on a)
-
--- ---- discarded is the number of those whose tile matched one read or accepted earlier
-
--- the stored tiles match what the tiles seen match
-abbrev Sees : Set → List (List ℕ) → List (List ℕ) → Type 0
-Sees z tiles seen = (u : List ℕ) → matchesSome (z .flips) (z .width) (z .height) tiles u ≡ matchesSome (z .flips) (z .width) (z .height) seen u
-
-sees-as : (z x : Set) (tiles seen : List (List ℕ)) → Settled z x → Sees z tiles seen → Sees x tiles seen
-sees-as z x tiles seen q a = rw (q .0, q .1, q .2) a
-
-module _ (z : Set) (s p : List ℕ) (seen : List (List ℕ)) (done : addSays z s p ≡ 0) (on : z .discarding ≡ true) (same : Sees z (setTiles z s) seen) where
-  abbrev tile : List ℕ
-  tile = cutTo (z .depth) p
-
-  abbrev again : Bool
-  again = matchesSome (z .flips) (z .width) (z .height) seen tile
-
-  one-sees : (b : Bool) → discards z (foundIn z s p) ≡ b → Sees (added z s p) (setTiles (added z s p) (storeWith z s p)) (seen ++ tile ∷ [])
-  one-sees true e =
-      sees-as z (added z s p) (setTiles (added z s p) (storeWith z s p)) (seen ++ tile ∷ []) (settled z s p)
-      (rw (gone-tiles z s p done e) (alike-gone (z .flips) (z .width) (z .height) (known z s p done .some) (setTiles z s) seen tile same (sym (discards-is z s p on) ∙ e)))
-  one-sees false e =
-      sees-as z (added z s p) (setTiles (added z s p) (storeWith z s p)) (seen ++ tile ∷ []) (settled z s p)
-      (rw (kept-tiles z s p done e) (alike-kept (z .flips) (z .width) (z .height) (known z s p done .some) (setTiles z s) seen tile same))
-
-  again-is : discards z (foundIn z s p) ≡ again
-  again-is = discards-is z s p on ∙ same tile
-
-  one-count : (b : Bool) → discards z (foundIn z s p) ≡ b → added z s p .discarded ≡ z .discarded + bit again
-  one-count true e = ap (λ (x : Set). x .discarded) (added-is z s p true e) ∙ ap (λ (b : Bool). z .discarded + bit b) (sym e ∙ again-is)
-  one-count false e =
-      let none : again ≡ false = sym again-is ∙ e in
-      ap (λ (x : Set). x .discarded) (added-is z s p false e) ∙ rw none (omega arith)
-
-after-sees : (z : Set) (s p : List ℕ) (seen : List (List ℕ)) (n : ℕ) → addSays z s p ≡ n → z .discarding ≡ true → Sees z (setTiles z s) seen
-    → Sees (unless n (added z s p) z) (setTiles (unless n (added z s p) z) (unless n (storeWith z s p) s)) (unless n (seen ++ cutTo (z .depth) p ∷ []) seen)
-after-sees z s p seen zero e on same = one-sees z s p seen e on same (discards z (foundIn z s p)) refl
-after-sees z s p seen (suc n) e on same = same
-
-after-count : (z : Set) (s p : List ℕ) (seen : List (List ℕ)) (n : ℕ) → addSays z s p ≡ n → z .discarding ≡ true → Sees z (setTiles z s) seen
-    → unless n (added z s p) z .discarded ≡ z .discarded + unless n (bit (matchesSome (z .flips) (z .width) (z .height) seen (cutTo (z .depth) p))) 0
-after-count z s p seen zero e on same = one-count z s p seen e on same (discards z (foundIn z s p)) refl
-after-count z s p seen (suc n) e on same = omega arith
-
-seen-repeats : (z : Set) (s : List ℕ) (seen ps : List (List ℕ)) → z .discarding ≡ true → Sees z (setTiles z s) seen
-    → setAtEnd z s ps .discarded ≡ z .discarded + repeats z s seen ps
-seen-repeats z s seen [] on same = omega arith
-seen-repeats z s seen (p ∷ ps) on same =
-    let n = addSays z s p in
-    omega (
-      arith,
-      after-count z s p seen n refl on same,
-      seen-repeats (setAfter z s p) (storeAfter z s p) (unless n (seen ++ cutTo (z .depth) p ∷ []) seen) ps (still-on z s p n ∙ on) (after-sees z s p seen n refl on same),
-    )
-
--- from any state: the tiles of the set count as seen
-pub adds-repeats : (z : Set) (s : List ℕ) (ps : List (List ℕ)) → z .discarding ≡ true → setAtEnd z s ps .discarded ≡ z .discarded + repeats z s (setTiles z s) ps
-adds-repeats z s ps on = seen-repeats z s (setTiles z s) ps on (λ u. refl)
-
--- ---- with discarding off nothing is discarded
-
-off-count : (z : Set) (s p : List ℕ) (n : ℕ) → z .discarding ≡ false → unless n (added z s p) z .discarded ≡ z .discarded
-off-count z s p zero off = ap (λ (x : Set). x .discarded) (added-is z s p false (discards-off z s p off))
-off-count z s p (suc n) off = refl
-
-pub adds-off : (z : Set) (s : List ℕ) (ps : List (List ℕ)) → z .discarding ≡ false → setAtEnd z s ps .discarded ≡ z .discarded
-adds-off z s [] off = refl
-adds-off z s (p ∷ ps) off =
-    adds-off (setAfter z s p) (storeAfter z s p) ps (still-on z s p (addSays z s p) ∙ off) ∙ off-count z s p (addSays z s p) off
+adds-sum z s ps = omega (arith, adds-stand z s ps .sum, adds-start z (sinceStart z s) z s ps)

@@ -2,7 +2,7 @@
 -- Assumes nothing.
 use mathlib.Core.Path.{_≡_, refl, sym, ap, _∙_, subst}
 use mathlib.Core.Bool.{Bool, true, false, not, cond, _&&_}
-use mathlib.Core.List.{List, [], _∷_, _++_}
+use mathlib.Core.List.{List, [], _∷_, _++_, append-nil, append-assoc}
 use mathlib.Core.Logic.{⊎-elim}
 use Prim.Native.Nat.{ℕ, zero, suc, _+_, _*_, _<_, _≤_}
 use native.Mathlib.Nat.{eq-or-lt-of-le, not-suc-le-zero, add-zero, add-suc, suc-add, zero-add, le-trans}
@@ -21,7 +21,7 @@ use Rattle.flip.proofs.Rows.{eq-same}
 use Rattle.flip.proofs.Equivalence.{Takes, Told, match-told, not-both}
 use Rattle.tileset.specs.Finding.{logical, foundOr, findIn, lookUp, isFound}
 use Rattle.tileset.specs.Matched.{matchesSome, Apart}
-use Rattle.tileset.specs.Keeping.{keep, keepAll, kept, fresh, again, need, discarded}
+use Rattle.tileset.specs.Keeping.{keep, keepAll, kept, fresh, again, need, discarded, repeats}
 use Rattle.tileset.specs.declared.Logical.{Logical}
 use Rattle.tileset.specs.declared.Found.{Found}
 use Rattle.tileset.specs.declared.Found.the-variants.{At, Nothing}
@@ -94,13 +94,14 @@ module _ (on : Bool) (w h : ℕ) (t : List ℕ) where
 -- ---- one tile more
 
 module _ (discard on : Bool) (w h : ℕ) where
-  all-next : (st ts : List (List ℕ)) (t : List ℕ) → keepAll discard on w h st (ts ++ t ∷ []) ≡ keep discard on w h (keepAll discard on w h st ts) t
-  all-next st [] t = refl
-  all-next st (u ∷ ts) t = all-next (keep discard on w h st u) ts t
+  -- tiles after tiles
+  pub keep-append : (st xs ys : List (List ℕ)) → keepAll discard on w h st (xs ++ ys) ≡ keepAll discard on w h (keepAll discard on w h st xs) ys
+  keep-append st [] ys = refl
+  keep-append st (x ∷ xs) ys = keep-append (keep discard on w h st x) xs ys
 
   pub kept-next : (ts : List (List ℕ)) (t : List ℕ) → kept discard on w h (ts ++ t ∷ []) ≡ keep discard on w h (kept discard on w h ts) t
   unfolding kept
-  kept-next ts t = all-next [] ts t
+  kept-next ts t = keep-append [] ts (t ∷ [])
 
   pub found-more : (st : List (List ℕ)) (u t : List ℕ) → isFound (lookUp on w h st t) ≡ true → lookUp on w h (keep discard on w h st u) t ≡ lookUp on w h st t
   unfolding keep
@@ -175,52 +176,14 @@ module _ (discard on : Bool) (w h : ℕ) (P : List ℕ → Type 0) where
 
 -- ---- how many they are
 
-module _ (on : Bool) (w h : ℕ) (z : 0 < w) where
-  abbrev Same : List (List ℕ) → List (List ℕ) → Type 0
-  Same st seen = Alike on w h z st seen
-
-  one-need : (b : Bool) (st seen : List (List ℕ)) (t : List ℕ) (ts : List (List ℕ)) → matchesSome on w h st t ≡ b → Same st seen
-      → ((st seen : List (List ℕ)) → Same st seen → length (keepAll true on w h st ts) ≡ length st + fresh on w h seen ts)
-      → length (keepAll true on w h (cond b st (st ++ t ∷ [])) ts) ≡ length st + (bit (not b) + fresh on w h (seen ++ t ∷ []) ts)
-  one-need true st seen t ts e same rest = omega (arith, rest st (seen ++ t ∷ []) (alike-gone on w h z st seen t same e))
-  one-need false st seen t ts e same rest =
-      omega (arith, rest (st ++ t ∷ []) (seen ++ t ∷ []) (alike-kept on w h z st seen t same), length-append st (t ∷ []))
-
-  all-need : (st seen ts : List (List ℕ)) → Same st seen → length (keepAll true on w h st ts) ≡ length st + fresh on w h seen ts
-  unfolding keep
-  all-need st seen [] same = omega arith
-  all-need st seen (t ∷ ts) same =
-      ap (λ (b : Bool). length (keepAll true on w h (cond b st (st ++ t ∷ [])) ts)) (look-some on w h st t)
-      ∙ one-need (matchesSome on w h st t) st seen t ts refl same (λ st seen same. all-need st seen ts same)
-      ∙ ap (λ (b : Bool). length st + (bit (not b) + fresh on w h (seen ++ t ∷ []) ts)) (same t)
-
-  off-all : (st ts : List (List ℕ)) → length (keepAll false on w h st ts) ≡ length st + length ts
-  unfolding keep
-  off-all st [] = omega arith
-  off-all st (t ∷ ts) = omega (arith, off-all (st ++ t ∷ []) ts, length-append st (t ∷ []))
-
-  -- "matches no earlier tile of the picture" is "is not found among those stored"
-  pub kept-need : (discard : Bool) (ts : List (List ℕ)) → length (kept discard on w h ts) ≡ need discard on w h ts
-  unfolding kept need
-  kept-need true ts = omega (arith, all-need [] [] ts (λ u. refl))
-  kept-need false ts = omega (arith, off-all [] ts)
-
 module _ (on : Bool) (w h : ℕ) where
-  one-apart : (b : Bool) (st : List (List ℕ)) (t : List ℕ) → matchesSome on w h st t ≡ b → Apart on w h st → Apart on w h (cond b st (st ++ t ∷ []))
-  one-apart true st t e apart = apart
-  one-apart false st t e apart = apart-more on w h st t e apart
+  pub fresh-append : (seen xs ys : List (List ℕ)) → fresh on w h seen (xs ++ ys) ≡ fresh on w h seen xs + fresh on w h (seen ++ xs) ys
+  fresh-append seen [] ys = rw (append-nil, zero-add)
+  fresh-append seen (x ∷ xs) ys = omega (arith, fresh-append (seen ++ x ∷ []) xs ys, ap (λ (l : List (List ℕ)). fresh on w h l ys) (append-assoc seen (x ∷ []) xs))
 
-  all-apart : (st ts : List (List ℕ)) → Apart on w h st → Apart on w h (keepAll true on w h st ts)
-  unfolding keep
-  all-apart st [] apart = apart
-  all-apart st (t ∷ ts) apart =
-      all-apart (cond (isFound (lookUp on w h st t)) st (st ++ t ∷ [])) ts
-      (one-apart (isFound (lookUp on w h st t)) st t (sym (look-some on w h st t)) apart)
-
-  -- with discarding on, no two stored tiles match
-  pub kept-apart : (ts : List (List ℕ)) → Apart on w h (kept true on w h ts)
-  unfolding kept
-  kept-apart ts = all-apart [] ts (apart-none on w h)
+  pub again-append : (seen xs ys : List (List ℕ)) → again on w h seen (xs ++ ys) ≡ again on w h seen xs + again on w h (seen ++ xs) ys
+  again-append seen [] ys = rw (append-nil, zero-add)
+  again-append seen (x ∷ xs) ys = omega (arith, again-append (seen ++ x ∷ []) xs ys, ap (λ (l : List (List ℕ)). again on w h l ys) (append-assoc seen (x ∷ []) xs))
 
   one-sum : (b : Bool) → bit (not b) + bit b ≡ 1
   one-sum true = refl
@@ -230,7 +193,7 @@ module _ (on : Bool) (w h : ℕ) where
   all-sum seen [] = refl
   all-sum seen (t ∷ ts) = omega (arith, one-sum (matchesSome on w h seen t), all-sum (seen ++ t ∷ []) ts)
 
-  -- each tile is needed or dropped
+  -- each tile is needed or discarded
   pub need-discarded : (discard : Bool) (ts : List (List ℕ)) → need discard on w h ts + discarded discard on w h ts ≡ length ts
   unfolding need discarded
   need-discarded true ts = all-sum [] ts
@@ -239,3 +202,52 @@ module _ (on : Bool) (w h : ℕ) where
   pub none-discarded : (ts : List (List ℕ)) → discarded false on w h ts ≡ 0
   unfolding discarded
   none-discarded ts = refl
+
+  module _ (z : 0 < w) where
+    one-need : (b : Bool) (st seen : List (List ℕ)) (t : List ℕ) (ts : List (List ℕ)) → matchesSome on w h st t ≡ b → Alike on w h st seen
+        → ((st seen : List (List ℕ)) → Alike on w h st seen → length (keepAll true on w h st ts) ≡ length st + fresh on w h seen ts)
+        → length (keepAll true on w h (cond b st (st ++ t ∷ [])) ts) ≡ length st + (bit (not b) + fresh on w h (seen ++ t ∷ []) ts)
+    one-need true st seen t ts e same rest = omega (arith, rest st (seen ++ t ∷ []) (alike-gone on w h z st seen t same e))
+    one-need false st seen t ts e same rest =
+        omega (arith, rest (st ++ t ∷ []) (seen ++ t ∷ []) (alike-kept on w h st seen t same), length-append st (t ∷ []))
+
+    all-need : (st seen ts : List (List ℕ)) → Alike on w h st seen → length (keepAll true on w h st ts) ≡ length st + fresh on w h seen ts
+    unfolding keep
+    all-need st seen [] same = omega arith
+    all-need st seen (t ∷ ts) same =
+        ap (λ (b : Bool). length (keepAll true on w h (cond b st (st ++ t ∷ [])) ts)) (look-some on w h st t)
+        ∙ one-need (matchesSome on w h st t) st seen t ts refl same (λ st seen same. all-need st seen ts same)
+        ∙ ap (λ (b : Bool). length st + (bit (not b) + fresh on w h (seen ++ t ∷ []) ts)) (same t)
+
+  off-all : (st ts : List (List ℕ)) → length (keepAll false on w h st ts) ≡ length st + length ts
+  unfolding keep
+  off-all st [] = omega arith
+  off-all st (t ∷ ts) = omega (arith, off-all (st ++ t ∷ []) ts, length-append st (t ∷ []))
+
+  -- each tile is stored, or it matches an earlier one and is not
+  pub kept-count : (discard : Bool) (st ts : List (List ℕ)) → (0 < length ts → 0 < w)
+      → length (keepAll discard on w h st ts) + repeats discard on w h st ts ≡ length st + length ts
+  kept-count false st ts wide = omega (arith, off-all st ts)
+  kept-count true st [] wide = refl
+  kept-count true st (t ∷ ts) wide = omega (arith, all-need (wide (omega arith)) st st (t ∷ ts) (λ u. refl), all-sum st (t ∷ ts))
+
+  one-apart : (b : Bool) (st : List (List ℕ)) (t : List ℕ) → matchesSome on w h st t ≡ b → Apart on w h st → Apart on w h (cond b st (st ++ t ∷ []))
+  one-apart true st t e apart = apart
+  one-apart false st t e apart = apart-more on w h st t e apart
+
+  -- with discarding on, no two stored tiles match where none did
+  pub all-apart : (st ts : List (List ℕ)) → Apart on w h st → Apart on w h (keepAll true on w h st ts)
+  unfolding keep
+  all-apart st [] apart = apart
+  all-apart st (t ∷ ts) apart =
+      all-apart (cond (isFound (lookUp on w h st t)) st (st ++ t ∷ [])) ts
+      (one-apart (isFound (lookUp on w h st t)) st t (sym (look-some on w h st t)) apart)
+
+  pub kept-apart : (ts : List (List ℕ)) → Apart on w h (kept true on w h ts)
+  unfolding kept
+  kept-apart ts = all-apart [] ts (apart-none on w h)
+
+-- "matches no earlier tile of the picture" is "is not found among those stored"
+pub kept-need : (on : Bool) (w h : ℕ) (z : 0 < w) (discard : Bool) (ts : List (List ℕ)) → length (kept discard on w h ts) ≡ need discard on w h ts
+unfolding kept need discarded
+kept-need on w h z discard ts = omega (arith, kept-count on w h discard [] ts (λ lt. z), need-discarded on w h discard ts)

@@ -1,56 +1,127 @@
 -- The laws of document 01's "Sets and whole tiles", as a reader wants them.
 -- Assumes nothing.
-use mathlib.Core.Path.{_≡_, refl}
-use mathlib.Core.Bool.{Bool, true, false}
-use mathlib.Core.List.{List, []}
+use mathlib.Core.Path.{_≡_, refl, sym, ap, _∙_}
+use mathlib.Core.Bool.{Bool, true}
+use mathlib.Core.List.{List, [], _∷_, _++_, map}
 use Prim.Native.Nat.{ℕ, _+_, _-_, _*_, _/_, _<_, _≤_}
 use native.Mathlib.Omega.{arith}
-use Rattle.tileset.specs.Sets.{emptied}
-use Rattle.tileset.specs.Finding.{tilesIn}
+use lib.ListN.{length}
+use Rattle.words.proofs.Answers.{when-done, when-refused}
+use Rattle.tileset.specs.Sets.{noSet, emptied, answeredSet}
+use Rattle.tileset.specs.Adding.{Adds}
 use Rattle.tileset.specs.Matched.{Apart}
-use Rattle.tileset.specs.History.{setAtEnd, storeAtEnd, accepted, repeats, setTiles}
+use Rattle.tileset.specs.Keeping.{keepAll, repeats}
 use Rattle.tileset.specs.Numbers.{rowCells, firstCell, Grid}
-use Rattle.tileset.specs.Reading.{readCount, readableSays, readSet}
+use Rattle.tileset.specs.Reading.{readCount, readableSays, readSet, Reads}
+use Rattle.tileset.specs.History.{setTiles, Call, addCall, resetCall, lookCall, Promised, numberOf, setAfter, storeAfter, lastSet, lastStore, Calls}
+use Rattle.tileset.specs.History.{Since, sinceReset, sinceStart, tilesRead, sinceRead, sinceCall, sinceCalls, asked, callOf, callsOf}
 use Rattle.tileset.specs.declared.Set.{Set}
+use Rattle.tileset.specs.declared.SetAnswer.{SetAnswer}
+use Rattle.tileset.proofs.Says.{says}
 use Rattle.tileset.proofs.Sizes.{set-of, grid-set}
 use Rattle.tileset.proofs.ReadingLaws.{readable-mode, readable-says-set, cells-before, tile-complete, next-incomplete}
 use Rattle.tileset.proofs.ReadBack.{single-tiles}
 use Rattle.tileset.proofs.Matched.{apart-none}
-use Rattle.tileset.proofs.History.{adds-sum, adds-repeats, adds-off, adds-apart}
+use Rattle.tileset.proofs.TilesRead.{tiles-read}
+use Rattle.tileset.proofs.History.{Stands, stands-start, after-calls, first-tiles, stands-discarded, stands-apart}
 
--- "Over any adds since the last reset": z is any set, emptied z is it after a reset
-module _ (z : Set) (store : List ℕ) (ps : List (List ℕ)) where
+-- ---- "A refusal returns its number, all else returned 0 or nothing; lent bytes and set state are untouched."
+
+pub answer-refused : (n : ℕ) (next z : Set) {r : SetAnswer} → r ≡ answeredSet n next z → (r .refusal ≡ 0 → ⊥) → r .set ≡ z
+answer-refused n next z a some = ap (λ (x : SetAnswer). x .set) a ∙ when-refused n next z (λ e. some (ap (λ (x : SetAnswer). x .refusal) a ∙ e))
+
+module _ {n : ℕ} {z next : Set} {before with after : List ℕ} {r : SetAnswer} (a : Adds n z next before with r after) where
+  number-is : r .refusal ≡ n
+  number-is = ap (λ (x : SetAnswer). x .refusal) (a .answer)
+
+  pub adds-refused : (r .refusal ≡ 0 → ⊥) → (r .set ≡ z) × (after ≡ before)
+  adds-refused some = (answer-refused n next z (a .answer) some, a .lent ∙ when-refused n with before (λ e. some (number-is ∙ e)))
+
+  pub adds-done : r .refusal ≡ 0 → (r .set ≡ next) × (after ≡ with)
+  adds-done e =
+      (ap (λ (x : SetAnswer). x .set) (a .answer) ∙ when-done n next z (sym number-is ∙ e), a .lent ∙ when-done n with before (sym number-is ∙ e))
+
+pub reads-refused : (m d w h : ℕ) (flips : Bool) (bytes store : List ℕ) {r : SetAnswer} {after : List ℕ} → Reads m d w h flips bytes store r after
+    → (r .refusal ≡ 0 → ⊥) → (r .set ≡ noSet) × (after ≡ store)
+reads-refused m d w h flips bytes store a some = adds-refused a some
+
+pub call-refused : (z : Set) (s : List ℕ) (c : Call) → Promised z s c → (numberOf c ≡ 0 → ⊥) → (setAfter z c ≡ z) × (storeAfter s c ≡ s)
+call-refused z s (addCall p r after) k some = adds-refused k some
+call-refused z s (resetCall r) k some = (answer-refused (says z) (emptied z) z k some, refl)
+call-refused z s (lookCall p r) k some = (refl, refl)
+
+-- ---- "Over any adds since the last reset, store, state and settings else unchanged": over any calls, refused ones and look-ups among them
+
+-- first is what is counted by at the start: `start z s` of any set, `read ..` of one that was read
+module _ (z : Set) (s : List ℕ) (first : Since) (from : first ≡ sinceStart z s) (cs : List Call) (k : Calls z s cs) where
+  abbrev t : Since
+  t = sinceCalls z first cs
+
+  abbrev end : Set
+  end = lastSet z cs
+
+  stands : Stands z t end (lastStore s cs)
+  stands = after-calls z (rw from (stands-start z s)) cs k
+
   -- "stored + discarded = adds answered 0"
-  pub reset-sum : setAtEnd (emptied z) store ps .stored + setAtEnd (emptied z) store ps .discarded ≡ accepted (emptied z) store ps
-  reset-sum = omega (arith, adds-sum (emptied z) store ps)
+  pub calls-sum : end .stored + end .discarded ≡ t .stored + t .discarded + length (t .taken)
+  calls-sum = stands .sum
 
-  -- "discarded is the number of those whose tile matched one accepted earlier"
-  pub reset-repeats : z .discarding ≡ true → setAtEnd (emptied z) store ps .discarded ≡ repeats (emptied z) store [] ps
-  unfolding tilesIn
-  reset-repeats on = omega (arith, adds-repeats (emptied z) store ps on)
+  -- "discarded is the number of those whose tile matched one read or accepted earlier (0 with discarding off)"
+  pub calls-discarded : end .discarded ≡ t .discarded + repeats (z .discarding) (z .flips) (z .width) (z .height) (t .tiles) (t .taken)
+  calls-discarded = stands-discarded z t stands
 
-  -- "(0 with discarding off)"
-  pub reset-off : z .discarding ≡ false → setAtEnd (emptied z) store ps .discarded ≡ 0
-  reset-off off = adds-off (emptied z) store ps off
+  -- with discarding on, no two stored tiles match, where none did at the start, or at the last reset, when there are none
+  pub calls-apart : z .discarding ≡ true → Apart (z .flips) (z .width) (z .height) (t .tiles)
+      → Apart (z .flips) (z .width) (z .height) (setTiles end (lastStore s cs))
+  calls-apart = stands-apart z t stands
 
-  -- no two stored tiles match
-  pub reset-apart : z .discarding ≡ true
-      → Apart (setAtEnd (emptied z) store ps .flips) (setAtEnd (emptied z) store ps .width) (setAtEnd (emptied z) store ps .height)
-      (setTiles (setAtEnd (emptied z) store ps) (storeAtEnd (emptied z) store ps))
-  unfolding tilesIn
-  reset-apart on = adds-apart (emptied z) store ps on (apart-none (z .flips) (z .width) (z .height))
+  pub first-apart : Apart (z .flips) (z .width) (z .height) (first .tiles) → Apart (z .flips) (z .width) (z .height) (t .tiles)
+  first-apart = first-tiles z (Apart (z .flips) (z .width) (z .height)) (apart-none (z .flips) (z .width) (z .height)) first cs
 
--- "its sum starts from the count read": over any adds to a read set, with all its tiles in the store
-module _ (m d w h : ℕ) (flips : Bool) (count : ℕ) (store : List ℕ) (ps : List (List ℕ)) where
-  abbrev given : Set
-  given = readSet m d w h flips count
+  -- the stored tiles are what is kept of the tiles accepted
+  pub calls-tiles : setTiles end (lastStore s cs) ≡ keepAll (z .discarding) (z .flips) (z .width) (z .height) (t .tiles) (t .taken)
+  calls-tiles = stands .tiles
 
-  pub read-sum : setAtEnd given store ps .stored + setAtEnd given store ps .discarded ≡ count + accepted given store ps
-  read-sum = omega (arith, adds-sum given store ps)
+-- calls after calls, and what is counted from a reset on: whatever came before it does not count
+pub since-append : (z : Set) (t : Since) (xs ys : List Call) → sinceCalls z t (xs ++ ys) ≡ sinceCalls z (sinceCalls z t xs) ys
+since-append z t [] ys = refl
+since-append z t (x ∷ xs) ys = since-append z (sinceCall z t x) xs ys
 
-  -- "discarded is the number of those whose tile matched one read or accepted earlier"
-  pub read-repeats : setAtEnd given store ps .discarded ≡ repeats given store (setTiles given store) ps
-  read-repeats = omega (arith, adds-repeats given store ps refl)
+pub since-reset : (z : Set) (t : Since) (r : SetAnswer) (cs : List Call) → r .refusal ≡ 0 → sinceCalls z t (resetCall r ∷ cs) ≡ sinceCalls z sinceReset cs
+since-reset z t r cs e = ap (λ (x : Since). sinceCalls z x cs) (when-done (r .refusal) sinceReset t e)
+
+-- "one possible answer and one content of lent memory": calls that kept their promises are those that what was asked leaves
+pub call-only : (z : Set) (s : List ℕ) (c : Call) → Promised z s c → c ≡ callOf z s (asked c)
+call-only z s (addCall p r after) k = rw (k .answer, k .lent)
+call-only z s (resetCall r) k = ap resetCall k
+call-only z s (lookCall p r) k = ap (lookCall p) k
+
+pub calls-only : (z : Set) (s : List ℕ) (cs : List Call) → Calls z s cs → cs ≡ callsOf z s (map asked cs)
+calls-only z s [] k = refl
+calls-only z s (c ∷ cs) k =
+    ap (λ (l : List Call). c ∷ l) (calls-only (setAfter z c) (storeAfter s c) cs (k .1))
+    ∙ ap (λ (x : Call). x ∷ callsOf (setAfter z x) (storeAfter s x) (map asked cs)) (call-only z s c (k .0))
+
+-- ---- a set that was read
+
+module _ (m d w h : ℕ) (flips : Bool) (bytes store : List ℕ) {r : SetAnswer} {after : List ℕ} (a : Reads m d w h flips bytes store r after) (done : r .refusal ≡ 0) where
+  pub read-set : r .set ≡ readSet m d w h flips (readCount m d w h (length bytes))
+  read-set = adds-done a done .0
+
+  -- its tiles are the tiles read
+  pub read-tiles : setTiles (r .set) after ≡ tilesRead m d w h bytes (readCount m d w h (length bytes))
+  read-tiles =
+      ap (λ (x : Set). setTiles x after) read-set
+      ∙ ap (λ (l : List ℕ). setTiles (readSet m d w h flips (readCount m d w h (length bytes))) l) (adds-done a done .1)
+      ∙ tiles-read m d w h bytes store
+
+  -- "its sum starts from the count read", and the tiles read count as seen: the laws of calls take this
+  pub read-start : sinceRead m d w h bytes ≡ sinceStart (r .set) after
+  read-start =
+      sym
+      (ap (λ (x : Set). record { stored = x .stored; discarded = x .discarded; tiles = setTiles (r .set) after; taken = [] }) read-set
+      ∙ ap (λ (l : List (List ℕ)). record { stored = readCount m d w h (length bytes); discarded = 0; tiles = l; taken = [] }) read-tiles)
 
 -- at 8x8 every cell is a tile
 pub read-cells : (m d len : ℕ) → readCount m d 8 8 len ≡ len / (d * 8)

@@ -63,6 +63,14 @@ module _ (on : Bool) (w h : ℕ) where
       rw (List·getD-append tiles (t ∷ []) [] i here, List·getD-append tiles (t ∷ []) [] j l) (apart i j lt l))
       (eq-or-lt-of-le (omega arith))
 
+  -- the stored tiles match what the tiles seen match
+  abbrev pub Alike : List (List ℕ) → List (List ℕ) → Type 0
+  Alike stored seen = (u : List ℕ) → matchesSome on w h stored u ≡ matchesSome on w h seen u
+
+  pub alike-kept : (stored seen : List (List ℕ)) (t : List ℕ) → Alike stored seen → Alike (stored ++ t ∷ []) (seen ++ t ∷ [])
+  alike-kept stored seen t same u =
+      some-more stored t u ∙ ap (λ (b : Bool). b || matches on w h t u) (same u) ∙ sym (some-more seen t u)
+
   module _ (z : 0 < w) where
     some-case : (a t u : List ℕ) (rest : Bool) (b : Bool) → matches on w h a t ≡ b → (b || rest) ≡ true → matches on w h t u ≡ true
         → (r : Bool) → (rest ≡ true → r ≡ true) → (matches on w h a u || r) ≡ true
@@ -79,14 +87,6 @@ module _ (on : Bool) (w h : ℕ) where
     absorbed true b f = refl
     absorbed false true f = f refl
     absorbed false false f = refl
-
-    -- the stored tiles match what the tiles seen match
-    abbrev pub Alike : List (List ℕ) → List (List ℕ) → Type 0
-    Alike stored seen = (u : List ℕ) → matchesSome on w h stored u ≡ matchesSome on w h seen u
-
-    pub alike-kept : (stored seen : List (List ℕ)) (t : List ℕ) → Alike stored seen → Alike (stored ++ t ∷ []) (seen ++ t ∷ [])
-    alike-kept stored seen t same u =
-        some-more stored t u ∙ ap (λ (b : Bool). b || matches on w h t u) (same u) ∙ sym (some-more seen t u)
 
     pub alike-gone : (stored seen : List (List ℕ)) (t : List ℕ) → Alike stored seen → matchesSome on w h stored t ≡ true → Alike stored (seen ++ t ∷ [])
     alike-gone stored seen t same e u =

@@ -100,7 +100,7 @@ module _ (s : List ℕ) (at : ℕ) (t : List ℕ) (n : ℕ) (fits : at + n ≤ l
       let l : length (take n (drop at put)) ≡ n = length-part n put at (omega (arith, length-sets s at t)) in
       ext-getD 0 (take n (drop at put)) t (l ∙ sym whole) (λ i q. part-at n put at i (omega arith) ∙ put-in i (omega arith))
 
-tiles-more : (n : ℕ) (s : List ℕ) (k m : ℕ) → tilesFrom n s k (suc m) ≡ tilesFrom n s k m ++ take n (drop ((k + m) * n) s) ∷ []
+pub tiles-more : (n : ℕ) (s : List ℕ) (k m : ℕ) → tilesFrom n s k (suc m) ≡ tilesFrom n s k m ++ take n (drop ((k + m) * n) s) ∷ []
 tiles-more n s k zero = rw (add-zero k)
 tiles-more n s k (suc m) =
     ap (λ (r : List (List ℕ)). take n (drop (k * n) s) ∷ r) (tiles-more n s (suc k) m ∙ rw (suc-add k m, add-suc k m))

@@ -65,7 +65,7 @@ pub record Adds (refusal : ℕ) (set next : Set) (before with : List ℕ) (r : S
 abbrev pub AddsTile : Set → List ℕ → List ℕ → SetAnswer → List ℕ → Type 0
 AddsTile z store pixels r after = Adds (addSays z store pixels) z (added z store pixels) store (storeWith z store pixels) r after
 
--- Of its two ends, the tile stored, "or 12"; and the match discardAnswer, or 13.
+-- Of its two ends, the tile stored, "or 12"; and the match counted, or 13.
 abbrev pub Stores : Set → ℕ → List ℕ → List ℕ → SetAnswer → List ℕ → Type 0
 Stores z room store pixels r after = Adds (12 when noRoom z room) z (oneStored z) store (atEnd z store pixels) r after
 

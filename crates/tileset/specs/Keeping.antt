@@ -34,5 +34,8 @@ unfoldable pub need : Bool → Bool → ℕ → ℕ → List (List ℕ) → ℕ
 need discard on w h tiles = cond discard (fresh on w h [] tiles) (length tiles)
 
 -- "Discarded is the number of those whose tile matched one read or accepted earlier (0 with discarding off)": of a picture, an earlier tile.
+abbrev pub repeats : Bool → Bool → ℕ → ℕ → List (List ℕ) → List (List ℕ) → ℕ
+repeats discard on w h earlier tiles = cond discard (again on w h earlier tiles) 0
+
 unfoldable pub discarded : Bool → Bool → ℕ → ℕ → List (List ℕ) → ℕ
-discarded discard on w h tiles = cond discard (again on w h [] tiles) 0
+discarded discard on w h tiles = repeats discard on w h [] tiles

@@ -35,7 +35,7 @@ fn append(set: Set, store: &mut [u8], pixels: &[u8]) -> SetAnswer
     }
 }
 
-// A match is discardAnswer, unless the counter is full.
+// A match is counted, unless the counter is full.
 fn discard(set: Set) -> SetAnswer
     ensures { λ r. ⌜ r ≡ discardAnswer set ⌝ }
 {
