@@ -13,7 +13,7 @@ use Rattle.words.specs.Answers.{_when_, firstApplying}
 use Rattle.words.proofs.Answers.{all-passed, not-given, first-given, when-done, when-refused}
 use Rattle.tileset.specs.Sets.{area, setRoom, roomIn, setSays, heldChecks, heldSays, lookChecks, lookSays, answeredSet}
 use Rattle.tileset.specs.Finding.{noPlace, placeOf, placed, Looks}
-use Rattle.tileset.specs.Numbers.{nativeAnswer, logicalAnswer, gridSays, nativeSays, logicalSays, tileOf}
+use Rattle.tileset.specs.Numbers.{nativeAnswer, logicalAnswer}
 use Rattle.tileset.specs.declared.Set.{Set}
 use Rattle.tileset.specs.declared.SetAnswer.{SetAnswer}
 use Rattle.tileset.specs.declared.Found.{Found}
@@ -144,30 +144,3 @@ looks-of z store pixels e =
       few = le-trans room (room-most (z .limit) (length store / area z));
       whole = eqb-true (length pixels) (area z) (not-false (eqb (length pixels) (area z)) (not-given 6 (not (eqb (length pixels) (area z))) (passed 1)));
     }
-
--- ---- the checks of the two numbers
-
-module _ (m w h : ℕ) where
-  pub native-first : (n k : ℕ) → k ≡ gridSays m w h → (k ≡ 0 → ⊥) → k ≡ nativeSays m w h n
-  unfolding nativeSays
-  native-first n k e due = first-given k (4 when ltb 65535 n ∷ []) e due
-
-  pub logical-first : (c k : ℕ) → k ≡ gridSays m w h → (k ≡ 0 → ⊥) → k ≡ logicalSays m w h c
-  unfolding logicalSays
-  logical-first c k e due = first-given k (4 when ltb 65535 (tileOf m w h c) ∷ []) e due
-
-  pub native-4 : (n : ℕ) → gridSays m w h ≡ 0 → 65535 < n → 4 ≡ nativeSays m w h n
-  unfolding nativeSays
-  native-4 n e lt = rw (next-given (4 when ltb 65535 n ∷ []) e, lt-ltb _ _ lt)
-
-  pub native-0 : (n : ℕ) → gridSays m w h ≡ 0 → n ≤ 65535 → nativeSays m w h n ≡ 0
-  unfolding nativeSays
-  native-0 n e le = rw (next-given (4 when ltb 65535 n ∷ []) e, le-ltb _ _ le)
-
-  pub logical-4 : (c : ℕ) → gridSays m w h ≡ 0 → 65535 < tileOf m w h c → 4 ≡ logicalSays m w h c
-  unfolding logicalSays
-  logical-4 c e lt = rw (next-given (4 when ltb 65535 (tileOf m w h c) ∷ []) e, lt-ltb _ _ lt)
-
-  pub logical-0 : (c : ℕ) → gridSays m w h ≡ 0 → tileOf m w h c ≤ 65535 → logicalSays m w h c ≡ 0
-  unfolding logicalSays
-  logical-0 c e le = rw (next-given (4 when ltb 65535 (tileOf m w h c) ∷ []) e, le-ltb _ _ le)
