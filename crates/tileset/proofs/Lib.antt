@@ -13,3 +13,4 @@ pub mod WritingLaws
 pub mod Written
 pub mod ReadingLaws
 pub mod ReadBack
+pub mod ReadThenWrite

@@ -4,7 +4,7 @@ use mathlib.Core.Path.{_≡_, refl, sym, ap, _∙_, subst}
 use mathlib.Core.Bool.{Bool, true, false, not, cond}
 use mathlib.Core.List.{List, [], _∷_, _++_}
 use mathlib.Core.Logic.{⊎-elim}
-use Prim.Native.Nat.{ℕ, zero, suc, _+_, _-_, _*_, _/_, _%_, _<_, _≤_}
+use Prim.Native.Nat.{ℕ, zero, suc, _+_, _-_, _*_, _/_, _%_, _^_, _<_, _≤_}
 use native.Mathlib.Nat.{mod-lt, div-le-self, mul-le-mul, mul-le-mul-left, mul-le-mul-right, mul-pos, mul-assoc, mul-left-comm, mul-comm, add-mul, mul-one, one-mul, add-zero, zero-add, div-add-mod', zero-div, div-lt-iff-lt-mul, le-div-iff-mul-le, le-trans, lt-of-mul-lt-mul-right, eq-or-lt-of-le}
 use native.Mathlib.Omega.{arith}
 use lib.Dec.{ltb, eqb}
@@ -21,7 +21,7 @@ use Rattle.tile.specs.Packings.{byteCount, unpackedIn}
 use Rattle.tile.specs.Tile.{packingOf, layoutOf, unpacked}
 use Rattle.tile.specs.declared.Packing.{Packing}
 use Rattle.tile.proofs.Native.{Native, fitting}
-use Rattle.tile.proofs.RoundTrip.{length-spread}
+use Rattle.tile.proofs.RoundTrip.{length-spread, spread-lt}
 use Rattle.flip.proofs.Group.{place-lt, place-row, place-column}
 use Rattle.tileset.specs.Sets.{isSize, setSays, setRoom, heldSays, noSet}
 use Rattle.tileset.specs.Numbers.{rowCells, startsAt, firstCell}
@@ -244,6 +244,11 @@ module _ {m d : ℕ} (n : Native m d 8 8) where
   pub cell-in-length : (bytes : List ℕ) (c : ℕ) → length (cellIn m d bytes c) ≡ 64
   cell-in-length bytes c = length-spread (layoutOf m d 8 8 .pixels) (take (d * 8) (drop (c * (d * 8)) bytes)) ∙ fitting n .pixels
 
+  pub cell-in-small : (bytes : List ℕ) (c j : ℕ) → j < 64 → getD (cellIn m d bytes c) j 0 < 2 ^ d
+  cell-in-small bytes c j lt =
+      subst (λ (k : ℕ). getD (cellIn m d bytes c) j 0 < 2 ^ k) (fitting n .bits)
+      (spread-lt (layoutOf m d 8 8 .pixels) (take (d * 8) (drop (c * (d * 8)) bytes)) j (rw (fitting n .pixels) lt))
+
   module _ {p : Packing} (q : p ≡ packingOf m d 8 8) where
     pub unpacks-at : (bytes out : List ℕ) (from at : ℕ) → from + d * 8 ≤ length bytes → at + 64 ≤ length out → Unpacks p bytes from out at
     unpacks-at bytes out from at inside space =
@@ -347,9 +352,11 @@ module _ {m d w h : ℕ} (s : IsSet m d w h) (n : Native m d 8 8) (bytes rest : 
       (λ y hy. each-eq w (λ x. getD cells (placeIn w y x) 0 ∷ []) (λ x. pixelIn m d w h bytes t y x ∷ [])
       (λ x hx. ap (λ (k : ℕ). k ∷ []) (ap (λ (l : List ℕ). getD l (placeIn w y x) 0) e ∙ pixel-is y x hy hx)))
 
+pub row-in-length : (m d w h : ℕ) (bytes : List ℕ) (n y : ℕ) → length (rowIn m d w h bytes n y) ≡ w
+row-in-length m d w h bytes n y = length-each w 1 (λ x. pixelIn m d w h bytes n y x ∷ []) (λ x. refl) ∙ mul-one w
+
 pub tile-length : (m d w h : ℕ) (bytes : List ℕ) (n : ℕ) → length (tileIn m d w h bytes n) ≡ w * h
-tile-length m d w h bytes n =
-    length-each h w (rowIn m d w h bytes n) (λ y. length-each w 1 (λ x. pixelIn m d w h bytes n y x ∷ []) (λ x. refl) ∙ mul-one w) ∙ mul-comm h w
+tile-length m d w h bytes n = length-each h w (rowIn m d w h bytes n) (row-in-length m d w h bytes n) ∙ mul-comm h w
 
 -- the pixels that reading puts into the store: 11 is by their number
 pub read-length : (m d w h : ℕ) (bytes : List ℕ) → length (readPixels m d w h bytes) ≡ readCount m d w h (length bytes) * (w * h)
