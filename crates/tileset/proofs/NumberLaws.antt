@@ -1,20 +1,18 @@
 -- The two index formulas: they fit, every cell of a tile belongs to it, every cell stands in its tile, and at 8x8 they agree.
 -- Assumes nothing.
 use mathlib.Core.Path.{_≡_, sym, ap, _∙_, subst}
-use mathlib.Core.List.{List, [], _∷_, _++_}
+use mathlib.Core.List.{List, [], _∷_}
 use Prim.Native.Nat.{ℕ, _+_, _*_, _/_, _%_, _<_, _≤_}
 use native.Mathlib.Nat.{div-le-self, mod-le, mod-lt, mul-le-mul, mul-le-mul-left, mul-le-mul-right, div-add-mod', div-lt-iff-lt-mul, div-one, mul-one, mul-comm, add-mul, le-trans}
 use native.Mathlib.Omega.{arith}
 use lib.Dec.{ltb}
 use borrow.Author.Tests.{lt-ltb, le-ltb}
-use Rattle.words.specs.Answers.{_when_, firstApplying}
-use Rattle.words.proofs.Answers.{all-passed, first-given}
-use Rattle.words.proofs.Order.{first-append}
+use Rattle.words.specs.Answers.{_when_}
 use Rattle.flip.proofs.Group.{place-lt, place-row, place-column}
 use Rattle.tileset.specs.Numbers.{startsAt, belongsTo, rowCells, firstCell, tileOf, gridChecks, gridSays, nativeSays}
 use Rattle.tileset.specs.Inner.{Grid}
 use Rattle.tileset.proofs.Sizes.{grid-of}
-use Rattle.tileset.proofs.Says.{next-given}
+use Rattle.tileset.proofs.Says.{checks-given, checks-after}
 
 pub grid-at : {k r h v : ℕ} → Grid r h v → k ≡ r → Grid k h v
 grid-at {h} {v} g e = subst (λ (n : ℕ). Grid n h v) (sym e) g
@@ -120,22 +118,7 @@ pub tile-8 : (m c : ℕ) → tileOf m 8 8 c ≡ c
 unfolding belongsTo
 tile-8 m c = rw (div-one (c / rowCells m), div-one (rowCells m), div-one (c % rowCells m)) (div-add-mod' c (rowCells m))
 
--- ---- checks after checks
-
-module _ (xs ys : List ℕ) where
-  pub checks-given : (n : ℕ) → n ≡ firstApplying xs → (n ≡ 0 → ⊥) → n ≡ firstApplying (xs ++ ys)
-  checks-given n e due = first-given n ys e due ∙ sym (first-append xs ys)
-
-  pub checks-after : firstApplying xs ≡ 0 → firstApplying (xs ++ ys) ≡ firstApplying ys
-  checks-after e = first-append xs ys ∙ next-given ys e
-
-  pub checks-first : firstApplying (xs ++ ys) ≡ 0 → firstApplying xs ≡ 0
-  checks-first e = all-passed (firstApplying xs ∷ ys) (sym (first-append xs ys) ∙ e) 0
-
-  pub checks-rest : firstApplying (xs ++ ys) ≡ 0 → firstApplying ys ≡ 0
-  checks-rest e = sym (checks-after (checks-first e)) ∙ e
-
--- the checks of the two numbers: n is the tile number
+-- ---- the checks of the two numbers: n is the tile number
 module _ (m w h n : ℕ) where
   abbrev high : List ℕ
   high = 4 when ltb 65535 n ∷ []

@@ -30,8 +30,8 @@ use Rattle.tileset.specs.Inner.{Grid, cellsIn, placeIn, rowOf}
 use Rattle.tileset.specs.declared.Set.{Set}
 use Rattle.tileset.specs.declared.SetAnswer.{SetAnswer}
 use Rattle.tileset.proofs.Sizes.{IsSet, set-of, bits-some}
-use Rattle.tileset.proofs.Says.{held-0, refused-set, done-set}
-use Rattle.tileset.proofs.NumberLaws.{row-some, start-row, start-across, checks-given, checks-after, checks-first, checks-rest}
+use Rattle.tileset.proofs.Says.{checks-given, checks-after, checks-first, checks-rest, held-0, refused-set, done-set}
+use Rattle.tileset.proofs.NumberLaws.{row-some, start-row, start-across}
 
 -- ---- how many tiles are whole
 

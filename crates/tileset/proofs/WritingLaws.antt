@@ -29,8 +29,7 @@ use Rattle.tileset.specs.Writing.{paddedCells, cellCount, cornerOf, bloc
 use Rattle.tileset.specs.Inner.{Grid}
 use Rattle.tileset.specs.declared.Set.{Set}
 use Rattle.tileset.proofs.Sizes.{IsSet, grid-set}
-use Rattle.tileset.proofs.Says.{held-set, held-room, room-most, room-whole}
-use Rattle.tileset.proofs.NumberLaws.{checks-given, checks-after, checks-first, checks-rest}
+use Rattle.tileset.proofs.Says.{checks-given, checks-after, checks-first, checks-rest, held-set, held-room, room-most, room-whole}
 
 -- ---- whole rows of cells
 

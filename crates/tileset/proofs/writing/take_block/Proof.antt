@@ -1,7 +1,7 @@
 -- The pixels before i are gathered.
 use mathlib.Core.Path.{refl}
 use mathlib.Core.List.{[], _∷_}
-use Prim.Native.Nat.{ℕ, _*_, _/_, _%_, _<_, _≤_, _-_, _+_}
+use Prim.Native.Nat.{_*_, _/_, _%_, _<_, _≤_, _-_, _+_}
 use native.Mathlib.Omega.{arith}
 use lib.ListN.{getD, length}
 use denote.Ref.{now}
