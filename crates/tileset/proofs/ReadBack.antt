@@ -4,15 +4,15 @@ use mathlib.Core.Path.{_≡_, refl, sym, ap, _∙_}
 use mathlib.Core.Bool.{Bool, true, false, cond, _&&_}
 use mathlib.Core.List.{List, [], _∷_, _++_}
 use Prim.Native.Nat.{ℕ, _+_, _-_, _*_, _/_, _%_, _<_, _≤_}
-use native.Mathlib.Nat.{mod-lt, mul-le-mul-right, mul-comm, mul-assoc, add-mul, mul-one, zero-mul, add-zero, zero-div, div-add-mod', mul-div-cancel, mul-mod-left, le-refl}
+use native.Mathlib.Nat.{mod-lt, mul-le-mul-right, mul-comm, mul-assoc, add-mul, zero-mul, add-zero, zero-div, div-add-mod', mul-div-cancel, mul-mod-left, le-refl}
 use native.Mathlib.Omega.{arith}
 use lib.Dec.{ltb, eqb}
 use lib.ListN.{length, getD, take, drop, replicate, getD-replicate, length-replicate, length-append, length-drop, List·getD-append}
-use lib.Seq.{getD-take, getD-drop, getD-append-add, length-take-le, ext-getD}
+use lib.Seq.{getD-take, getD-drop, getD-append-add, length-take-le}
 use borrow.Author.Tests.{ltb-true, ltb-false, eqb-true}
 use Rattle.words.specs.Loops.{each}
-use Rattle.words.proofs.Items.{item-getD, item-inside, each-eq, whole-parts}
-use Rattle.words.proofs.Loops.{length-each}
+use Rattle.words.proofs.Filling.{each-of}
+use Rattle.words.proofs.Items.{item-inside, each-eq, whole-parts}
 use Rattle.mode.specs.Table.{pce-sprite}
 use Rattle.flip.proofs.Group.{place-lt}
 use Rattle.tileset.specs.Sets.{area, heldSays}
@@ -40,14 +40,6 @@ pub record ReadsBack (z : Set) (store : List ℕ) : Type 0 where
 
 -- ---- rows of pixels, one after the other
 
-singles : (l : List ℕ) (n : ℕ) → length l ≡ n → each n (λ x. getD l x 0 ∷ []) ≡ l
-singles l n len =
-    let f : ℕ → List ℕ = λ x. getD l x 0 ∷ [] in
-    let long : length (each n f) ≡ n = length-each n 1 f (λ x. refl) ∙ mul-one n in
-    ext-getD 0 (each n f) l (long ∙ sym len)
-    (λ i lt. let e : i * 1 + 0 ≡ i = omega arith in
-    ap (λ (k : ℕ). getD (each n f) k 0) (sym e) ∙ item-getD 1 f (λ x. refl) n i (omega arith) 0 (omega arith))
-
 rows-of : (w h : ℕ) (l : List ℕ) (f : ℕ → ℕ → ℕ) → length l ≡ w * h → ((y x : ℕ) → y < h → x < w → f y x ≡ getD l (y * w + x) 0)
     → each h (λ y. each w (λ x. f y x ∷ [])) ≡ l
 rows-of w h l f len is =
@@ -58,7 +50,7 @@ rows-of w h l f len is =
     let long : length row ≡ w = length-take-le w (drop (y * w) l) (omega (arith, length-drop (y * w) l, mul-comm w h)) in
     each-eq w (λ x. f y x ∷ []) (λ x. getD row x 0 ∷ [])
     (λ x hx. ap (λ (k : ℕ). k ∷ []) (is y x hy hx ∙ sym (getD-take w (drop (y * w) l) x 0 hx ∙ getD-drop (y * w) l x 0)))
-    ∙ singles row w long)
+    ∙ ap (λ (n : ℕ). each n (λ x. getD row x 0 ∷ [])) (sym long) ∙ each-of row)
     ∙ whole-parts w h l (len ∙ mul-comm w h)
 
 -- ---- how many tiles the written cells hold

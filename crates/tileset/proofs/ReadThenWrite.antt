@@ -1,8 +1,8 @@
 -- What was read can be written: each pixel of a read set is below 2^depth, so that no number is left but 11.
 -- Assumes nothing.
-use mathlib.Core.Path.{_≡_, refl, sym, ap, _∙_, subst}
+use mathlib.Core.Path.{_≡_, sym, ap, _∙_, subst}
 use mathlib.Core.Bool.{Bool}
-use mathlib.Core.List.{List, [], _∷_}
+use mathlib.Core.List.{List}
 use Prim.Native.Nat.{ℕ, _+_, _*_, _/_, _%_, _^_, _<_, _≤_}
 use native.Mathlib.Nat.{mod-lt, mul-pos, mul-comm, div-add-mod', div-lt-iff-lt-mul}
 use native.Mathlib.Omega.{arith}
@@ -20,11 +20,12 @@ use Rattle.tileset.specs.Reading.{readCount, readSays, readSet, pixelIn,
 use Rattle.tileset.specs.declared.Set.{Set}
 use Rattle.tileset.specs.declared.SetAnswer.{SetAnswer}
 use Rattle.tileset.proofs.Sizes.{IsSet}
-use Rattle.tileset.proofs.WritingLaws.{native-cell, write-0}
+use Rattle.tileset.proofs.WritingLaws.{each-getD, native-cell, write-0}
 use Rattle.tileset.proofs.ReadingLaws.{readable-mode, read-readable, read-set-of, read-space, read-held, read-length, cell-in-small, row-in-length, tile-length}
 
 -- numbers below b in each item, each of k numbers
-each-small : (k n b : ℕ) (f : ℕ → List ℕ) → 0 < k → ((i : ℕ) → length (f i) ≡ k) → ((i j : ℕ) → j < k → getD (f i) j 0 < b) → (i : ℕ) → i < n * k → getD (each n f) i 0 < b
+each-small : (k n b : ℕ) (f : ℕ → List ℕ) → 0 < k → ((i : ℕ) → length (f i) ≡ k) → ((i j : ℕ) → j < k → getD (f i) j 0 < b)
+    → (i : ℕ) → i < n * k → getD (each n f) i 0 < b
 each-small k n b f some size small i lt =
     let inside : i % k < k = mod-lt i some in
     subst (λ (x : ℕ). getD (each n f) x 0 < b) (div-add-mod' i k)
@@ -36,11 +37,7 @@ module _ {m d w h : ℕ} (s : IsSet m d w h) (n : Native m d 8 8) (bytes : List 
   pixel-small t y x = cell-in-small n bytes (firstCell m w h t + y / 8 * rowCells m + x / 8) (y % 8 * 8 + x % 8) (omega arith)
 
   row-small : (t y x : ℕ) → x < w → getD (rowIn m d w h bytes t y) x 0 < 2 ^ d
-  row-small t y x lt =
-      each-small 1 w (2 ^ d) (λ k. pixelIn m d w h bytes t y k ∷ []) (omega arith) (λ k. refl) (λ k j l. single k j l) x (omega arith)
-    where
-      single : (k j : ℕ) → j < 1 → getD (pixelIn m d w h bytes t y k ∷ []) j 0 < 2 ^ d
-      single k j l = let e : j ≡ 0 = omega arith in rw e (pixel-small t y k)
+  row-small t y x lt = rw (each-getD w (pixelIn m d w h bytes t y) x lt) (pixel-small t y x)
 
   tile-small : (t i : ℕ) → i < w * h → getD (tileIn m d w h bytes t) i 0 < 2 ^ d
   tile-small t i lt =

@@ -14,7 +14,7 @@ use Rattle.words.specs.Answers.{_when_, firstApplying}
 use Rattle.words.specs.Loops.{each, some}
 use Rattle.words.proofs.Answers.{all-passed, not-given}
 use Rattle.words.proofs.Filling.{Filled, filled-more}
-use Rattle.words.proofs.Items.{item-inside}
+use Rattle.words.proofs.Items.{item-getD, item-inside}
 use Rattle.words.proofs.Loops.{length-each}
 use Rattle.mode.specs.Table.{pce-sprite}
 use Rattle.tile.specs.Inner.{Packs}
@@ -73,6 +73,13 @@ module _ (w h y x : ℕ) (ew : w ≡ w / 8 * 8) (eh : h ≡ h / 8 * 8) (hy : y <
 
   pub block-in-store : (t n len : ℕ) → t < n → n * (w * h) ≤ len → t * (w * h) + y * 8 * w + x * 8 + 7 * w + 8 ≤ len
   block-in-store t n len lt fits = omega (arith, block-inside, mul-le-mul-right (w * h) lt, suc-mul t (w * h))
+
+-- number i of numbers put one after the other
+pub each-getD : (n : ℕ) (g : ℕ → ℕ) (i : ℕ) → i < n → getD (each n (λ k. g k ∷ [])) i 0 ≡ g i
+each-getD n g i lt =
+    let f : ℕ → List ℕ = λ k. g k ∷ [] in
+    let e : i * 1 + 0 ≡ i = omega arith in
+    ap (λ (k : ℕ). getD (each n f) k 0) (sym e) ∙ item-getD 1 f (λ k. refl) n i lt 0 (omega arith)
 
 -- pixel i of a block
 pub block-at : (w corner len i : ℕ) → corner + 7 * w + 8 ≤ len → i < 64 → corner + i / 8 * w + i % 8 < len
@@ -143,8 +150,8 @@ module _ (z : Set) (len : ℕ) (held : heldSays z len ≡ 0) where
 
 -- ---- filling a slice from its start
 
-pub front-more : (k : ℕ) {f : ℕ → List ℕ} {out now then : List ℕ} {i : ℕ} → ((j : ℕ) → length (f j) ≡ k) → Filled f out 0 i now → then ≡ sets now (i * k) (f i)
-    → Filled f out 0 (i + 1) then
+pub front-more : (k : ℕ) {f : ℕ → List ℕ} {out now then : List ℕ} {i : ℕ} → ((j : ℕ) → length (f j) ≡ k) → Filled f out 0 i now
+    → then ≡ sets now (i * k) (f i) → Filled f out 0 (i + 1) then
 front-more k {f} {now} {i} size h e = filled-more k size h (e ∙ ap (λ (n : ℕ). sets now n (f i)) (sym (zero-add (i * k))))
 
 pub front-one : {g : ℕ → ℕ} {out now : List ℕ} {i : ℕ} → Filled (λ k. g k ∷ []) out 0 i now → Filled (λ k. g k ∷ []) out 0 (i + 1) (set now i (g i))
