@@ -19,7 +19,7 @@ use Rattle.tileset.specs.declared.Set.{Set}
 use Rattle.tileset.specs.declared.SetAnswer.{SetAnswer}
 use Rattle.tileset.proofs.Says.{says}
 use Rattle.tileset.proofs.Sizes.{set-of, grid-set}
-use Rattle.tileset.proofs.ReadingLaws.{readable-mode, readable-says-set, cells-before, tile-complete, next-incomplete}
+use Rattle.tileset.proofs.ReadingLaws.{readable-mode, readable-says-set, cells-before, tile-complete, next-incomplete, own-cell}
 use Rattle.tileset.proofs.ReadBack.{single-tiles}
 use Rattle.tileset.proofs.Matched.{apart-none}
 use Rattle.tileset.proofs.TilesRead.{tiles-read}
@@ -127,16 +127,15 @@ module _ (m d w h : ℕ) (flips : Bool) (bytes store : List ℕ) {r : SetAnswer}
 pub read-cells : (m d len : ℕ) → readCount m d 8 8 len ≡ len / (d * 8)
 read-cells m d len = single-tiles (rowCells m) (len / (d * 8))
 
--- "Reading stops at the first incomplete tile"
-module _ (m d w h : ℕ) (z : readableSays m d w h ≡ 0) (len : ℕ) where
-  grid : Grid (rowCells m) (w / 8) (h / 8)
-  grid = grid-set (set-of m d w h (readable-says-set m d w h z)) (readable-mode m d w h z)
-
+-- "stops at the first incomplete tile"
+module _ (m d w h len : ℕ) where
   -- every cell of each tile that is read is there
   pub read-complete : (n i j : ℕ) → n < readCount m d w h len → i < h / 8 → j < w / 8 → firstCell m w h n + i * rowCells m + j < len / (d * 8)
   read-complete n i j lt hi hj =
-      omega (arith, cells-before (rowCells m) (w / 8) (h / 8) n i j hi hj, tile-complete (rowCells m) (w / 8) (h / 8) grid (len / (d * 8)) n lt)
+      omega (arith, cells-before (rowCells m) (w / 8) (h / 8) n i j hi hj, tile-complete (rowCells m) (w / 8) (h / 8) (len / (d * 8)) n lt)
 
   -- and the last cell of the tile after them is not
-  pub read-stops : len / (d * 8) ≤ firstCell m w h (readCount m d w h len) + (h / 8 - 1) * rowCells m + (w / 8 - 1)
-  read-stops = next-incomplete (rowCells m) (w / 8) (h / 8) grid (len / (d * 8))
+  pub read-stops : readableSays m d w h ≡ 0 → len / (d * 8) ≤ firstCell m w h (readCount m d w h len) + (h / 8 - 1) * rowCells m + (w / 8 - 1)
+  read-stops z =
+      let grid = grid-set (set-of m d w h (readable-says-set m d w h z)) (readable-mode m d w h z) in
+      next-incomplete (rowCells m) (w / 8) (h / 8) (len / (d * 8)) (own-cell (rowCells m) (w / 8) (h / 8) grid)

@@ -14,3 +14,5 @@ pub mod Written
 pub mod ReadingLaws
 pub mod ReadBack
 pub mod TilesRead
+pub mod ReadThenWrite
+pub mod LowestCells

@@ -1,12 +1,18 @@
--- The two index formulas: they fit, every cell of a tile belongs to it, and every cell stands in its tile.
+-- The two index formulas: they fit, every cell of a tile belongs to it, every cell stands in its tile, and at 8x8 they agree.
 -- Assumes nothing.
 use mathlib.Core.Path.{_≡_, sym, ap, _∙_, subst}
+use mathlib.Core.List.{List, [], _∷_}
 use Prim.Native.Nat.{ℕ, _+_, _*_, _/_, _%_, _<_, _≤_}
-use native.Mathlib.Nat.{div-le-self, mod-le, mod-lt, mul-le-mul, mul-le-mul-left, mul-le-mul-right, div-add-mod', div-lt-iff-lt-mul, mul-comm, add-mul, le-trans}
+use native.Mathlib.Nat.{div-le-self, mod-le, mod-lt, mul-le-mul, mul-le-mul-left, mul-le-mul-right, div-add-mod', div-lt-iff-lt-mul, div-one, mul-one, mul-comm, add-mul, le-trans}
 use native.Mathlib.Omega.{arith}
+use lib.Dec.{ltb}
+use borrow.Author.Tests.{lt-ltb, le-ltb}
+use Rattle.words.specs.Answers.{_when_}
 use Rattle.flip.proofs.Group.{place-lt, place-row, place-column}
-use Rattle.tileset.specs.Numbers.{startsAt, belongsTo, rowCells, firstCell, tileOf, gridSays, Grid}
+use Rattle.tileset.specs.Numbers.{startsAt, belongsTo, rowCells, firstCell, tileOf, gridChecks, gridSays, nativeSays}
+use Rattle.tileset.specs.Inner.{Grid}
 use Rattle.tileset.proofs.Sizes.{grid-of}
+use Rattle.tileset.proofs.Says.{checks-given, checks-after}
 
 pub grid-at : {k r h v : ℕ} → Grid r h v → k ≡ r → Grid k h v
 grid-at {h} {v} g e = subst (λ (n : ℕ). Grid n h v) (sym e) g
@@ -99,3 +105,33 @@ module _ (m w h : ℕ) (z : gridSays m w h ≡ 0) where
   -- every cell stands in its tile
   pub cell-in-tile : (c : ℕ) → firstCell m w h (tileOf m w h c) + c / rowCells m % (h / 8) * rowCells m + c % rowCells m % (w / 8) ≡ c
   cell-in-tile = start-belongs (rowCells m) (w / 8) (h / 8) (grid-of m w h z)
+
+-- "At 8x8 they agree."
+pub single-starts : (r n : ℕ) → startsAt r 1 1 n ≡ n
+unfolding startsAt
+single-starts r n = rw (div-one r, mul-one (n / r), mul-one (n % r)) (div-add-mod' n r)
+
+pub first-8 : (m n : ℕ) → firstCell m 8 8 n ≡ n
+first-8 m n = single-starts (rowCells m) n
+
+pub tile-8 : (m c : ℕ) → tileOf m 8 8 c ≡ c
+unfolding belongsTo
+tile-8 m c = rw (div-one (c / rowCells m), div-one (rowCells m), div-one (c % rowCells m)) (div-add-mod' c (rowCells m))
+
+-- ---- the checks of the two numbers: n is the tile number
+module _ (m w h n : ℕ) where
+  abbrev high : List ℕ
+  high = 4 when ltb 65535 n ∷ []
+
+  pub native-first : (k : ℕ) → k ≡ gridSays m w h → (k ≡ 0 → ⊥) → k ≡ nativeSays m w h n
+  unfolding gridSays nativeSays
+  native-first k e due = checks-given (gridChecks m w h) high k e due
+
+  module _ (z : gridSays m w h ≡ 0) where
+    pub native-4 : 65535 < n → 4 ≡ nativeSays m w h n
+    unfolding gridSays nativeSays
+    native-4 lt = sym (checks-after (gridChecks m w h) high z ∙ rw (lt-ltb 65535 n lt))
+
+    pub native-0 : n ≤ 65535 → nativeSays m w h n ≡ 0
+    unfolding gridSays nativeSays
+    native-0 le = checks-after (gridChecks m w h) high z ∙ rw (le-ltb 65535 n le)

@@ -4,28 +4,29 @@ use mathlib.Core.Path.{_≡_, refl, sym, ap, _∙_}
 use mathlib.Core.Bool.{Bool, true, false, cond, _&&_}
 use mathlib.Core.List.{List, [], _∷_, _++_}
 use Prim.Native.Nat.{ℕ, _+_, _-_, _*_, _/_, _%_, _<_, _≤_}
-use native.Mathlib.Nat.{mod-lt, mul-le-mul-right, mul-comm, mul-assoc, add-mul, mul-one, one-mul, zero-mul, add-zero, div-one, zero-div, div-add-mod', mul-div-cancel, mul-mod-left, le-refl}
+use native.Mathlib.Nat.{mod-lt, mul-le-mul-right, mul-comm, mul-assoc, add-mul, zero-mul, add-zero, zero-div, div-add-mod', mul-div-cancel, mul-mod-left, le-refl}
 use native.Mathlib.Omega.{arith}
 use lib.Dec.{ltb, eqb}
 use lib.ListN.{length, getD, take, drop, replicate, getD-replicate, length-replicate, length-append, length-drop, List·getD-append}
-use lib.Seq.{getD-take, getD-drop, getD-append-add, length-take-le, ext-getD}
+use lib.Seq.{getD-take, getD-drop, getD-append-add, length-take-le}
 use borrow.Author.Tests.{ltb-true, ltb-false, eqb-true}
 use Rattle.words.specs.Loops.{each}
-use Rattle.words.proofs.Items.{item-getD, item-inside, each-eq, whole-parts}
-use Rattle.words.proofs.Loops.{length-each}
+use Rattle.words.proofs.Filling.{each-of}
+use Rattle.words.proofs.Items.{item-inside, each-eq, whole-parts}
 use Rattle.mode.specs.Table.{pce-sprite}
 use Rattle.flip.proofs.Group.{place-lt}
 use Rattle.tileset.specs.Sets.{area, heldSays}
-use Rattle.tileset.specs.Numbers.{rowCells, firstCell, Grid}
+use Rattle.tileset.specs.Numbers.{rowCells, firstCell}
 use Rattle.tileset.specs.Writing.{paddedCells, cellCount, cellPixels, cellsOf, setBytes, writeSays}
-use Rattle.tileset.specs.Reading.{wholeTiles, readCount, readSays, pixelIn, tileIn, readPixels, paddedTiles, tileCount}
+use Rattle.tileset.specs.Reading.{lastCell, wholeTiles, readCount, readSays, pixelIn, tileIn, readPixels, paddedTiles, tileCount}
+use Rattle.tileset.specs.Inner.{Grid}
 use Rattle.tileset.specs.declared.Set.{Set}
 use Rattle.tileset.proofs.Sizes.{IsSet, grid-set, bits-some}
 use Rattle.tileset.proofs.Says.{held-set, held-says-set}
-use Rattle.tileset.proofs.NumberLaws.{belongs-start}
+use Rattle.tileset.proofs.NumberLaws.{belongs-start, single-starts}
 use Rattle.tileset.proofs.WritingLaws.{held-inside, write-held, cell-set, cells-space, cell-blank}
 use Rattle.tileset.proofs.Written.{cell-back, tile-pixel}
-use Rattle.tileset.proofs.ReadingLaws.{strip-some, tile-complete, cells-before, readable-set, read-0}
+use Rattle.tileset.proofs.ReadingLaws.{strip-some, tile-complete, whole-only, whole-tiles-are, cells-before, readable-set, read-0}
 
 -- What reading the bytes of a written set gives: its tiles and blank ones, and no refusal where there is room for them.
 pub record ReadsBack (z : Set) (store : List ℕ) : Type 0 where
@@ -39,14 +40,6 @@ pub record ReadsBack (z : Set) (store : List ℕ) : Type 0 where
 
 -- ---- rows of pixels, one after the other
 
-singles : (l : List ℕ) (n : ℕ) → length l ≡ n → each n (λ x. getD l x 0 ∷ []) ≡ l
-singles l n len =
-    let f : ℕ → List ℕ = λ x. getD l x 0 ∷ [] in
-    let long : length (each n f) ≡ n = length-each n 1 f (λ x. refl) ∙ mul-one n in
-    ext-getD 0 (each n f) l (long ∙ sym len)
-    (λ i lt. let e : i * 1 + 0 ≡ i = omega arith in
-    ap (λ (k : ℕ). getD (each n f) k 0) (sym e) ∙ item-getD 1 f (λ x. refl) n i (omega arith) 0 (omega arith))
-
 rows-of : (w h : ℕ) (l : List ℕ) (f : ℕ → ℕ → ℕ) → length l ≡ w * h → ((y x : ℕ) → y < h → x < w → f y x ≡ getD l (y * w + x) 0)
     → each h (λ y. each w (λ x. f y x ∷ [])) ≡ l
 rows-of w h l f len is =
@@ -57,7 +50,7 @@ rows-of w h l f len is =
     let long : length row ≡ w = length-take-le w (drop (y * w) l) (omega (arith, length-drop (y * w) l, mul-comm w h)) in
     each-eq w (λ x. f y x ∷ []) (λ x. getD row x 0 ∷ [])
     (λ x hx. ap (λ (k : ℕ). k ∷ []) (is y x hy hx ∙ sym (getD-take w (drop (y * w) l) x 0 hx ∙ getD-drop (y * w) l x 0)))
-    ∙ singles row w long)
+    ∙ ap (λ (n : ℕ). each n (λ x. getD row x 0 ∷ [])) (sym long) ∙ each-of row)
     ∙ whole-parts w h l (len ∙ mul-comm w h)
 
 -- ---- how many tiles the written cells hold
@@ -65,14 +58,12 @@ rows-of w h l f len is =
 module _ (r h v : ℕ) (g : Grid r h v) where
   -- whole strips of cells
   whole-strips : (q : ℕ) → wholeTiles r h v (q * v * r) ≡ q * (r / h)
-  unfolding wholeTiles
   whole-strips q =
-      let some : 0 < v * r = strip-some r h v g 0 in
-      rw (mul-assoc q v r, mul-div-cancel q {n = v * r} some, mul-mod-left q (v * r))
-      (ap (λ (k : ℕ). q * (r / h) + k / h) (none ((v - 1) * r)) ∙ ap (λ (k : ℕ). q * (r / h) + k) (zero-div h) ∙ add-zero (q * (r / h)))
-    where
-      none : (n : ℕ) → 0 - n ≡ 0
-      none n = omega arith
+      let some : 0 < v * r = strip-some r h v g in
+      let none : 0 - (v - 1) * r ≡ 0 = omega arith in
+      whole-tiles-are r h v g (q * v * r)
+      ∙ rw (mul-assoc q v r, mul-div-cancel q {n = v * r} some, mul-mod-left q (v * r))
+      (ap (λ (k : ℕ). q * (r / h) + k / h) none ∙ ap (λ (k : ℕ). q * (r / h) + k) (zero-div h) ∙ add-zero (q * (r / h)))
 
   padded-tiles : (n : ℕ) → wholeTiles r h v (paddedCells r h v n) ≡ paddedTiles (r / h) n
   unfolding paddedCells
@@ -83,10 +74,9 @@ module _ (r h v : ℕ) (g : Grid r h v) where
 
 -- at 8x8 every cell is a tile
 pub single-tiles : (r n : ℕ) → wholeTiles r 1 1 n ≡ n
-unfolding wholeTiles
 single-tiles r n =
-    let e : n % r - 0 * r ≡ n % r = omega (arith, zero-mul r) in
-    rw (one-mul r, div-one r, e, div-one (n % r)) (div-add-mod' n r)
+    let last : (k : ℕ) → lastCell r 1 1 k ≡ k = λ k. omega (arith, single-starts r k, zero-mul r) in
+    whole-only r 1 1 n (λ k. omega (arith, last k)) n (λ k lt. omega (arith, last k)) (omega (arith, last n))
 
 module _ {m d w h : ℕ} (s : IsSet m d w h) (other : m ≡ pce-sprite → ⊥) (n : ℕ) where
   grid : Grid (rowCells m) (w / 8) (h / 8)
@@ -170,9 +160,8 @@ module _ (z : Set) (store : List ℕ) (space : ℕ) (done : writeSays z store sp
 
     cell-there : cell < cellsOf z
     cell-there =
-        let grid-here = grid-set sound other in
         let whole : t < wholeTiles r (z .width / 8) (z .height / 8) (cellsOf z) = omega (arith, count-is sound other (z .stored)) in
-        omega (arith, cells-before r (z .width / 8) (z .height / 8) t (y / 8) (x / 8) row-in column-in, tile-complete r (z .width / 8) (z .height / 8) grid-here (cellsOf z) t whole)
+        omega (arith, cells-before r (z .width / 8) (z .height / 8) t (y / 8) (x / 8) row-in column-in, tile-complete r (z .width / 8) (z .height / 8) (cellsOf z) t whole)
 
     unpacked-is : pixelIn (z .mode) (z .depth) (z .width) (z .height) bytes t y x ≡ getD (cellPixels z store cell) j 0
     unpacked-is = ap (λ (l : List ℕ). getD l j 0) (cell-back z store space done other cell cell-there)

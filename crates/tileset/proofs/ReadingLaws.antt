@@ -1,67 +1,91 @@
--- Reading: how many tiles come before the first incomplete one, and the loops that read them.
+-- Reading: how many tiles come before the first incomplete one, its checks, and where each pixel of a tile stands.
 -- Assumes nothing.
 use mathlib.Core.Path.{_≡_, refl, sym, ap, _∙_, subst}
-use mathlib.Core.Bool.{Bool, true, false, not}
-use mathlib.Core.List.{List, [], _∷_, _++_, append-nil, append-assoc}
-use Prim.Native.Nat.{ℕ, zero, suc, _+_, _-_, _*_, _/_, _%_, _<_, _≤_}
-use native.Mathlib.Nat.{mod-lt, div-le-self, mul-le-mul, mul-le-mul-left, mul-le-mul-right, mul-pos, mul-assoc, mul-left-comm, mul-comm, add-mul, mul-one, one-mul, zero-mul, add-zero, div-add-mod', zero-div, div-lt-iff-lt-mul, le-div-iff-mul-le, le-trans, lt-of-mul-lt-mul-right}
-use native.Mathlib.Numerals.{add-one}
+use mathlib.Core.Bool.{Bool, true, false, not, cond}
+use mathlib.Core.List.{List, [], _∷_, _++_}
+use mathlib.Core.Logic.{⊎-elim}
+use Prim.Native.Nat.{ℕ, zero, suc, _+_, _-_, _*_, _/_, _%_, _^_, _<_, _≤_}
+use native.Mathlib.Nat.{mod-lt, div-le-self, mul-le-mul, mul-le-mul-left, mul-le-mul-right, mul-pos, mul-assoc, mul-left-comm, mul-comm, add-mul, mul-one, one-mul, add-zero, zero-add, div-add-mod', zero-div, div-lt-iff-lt-mul, le-div-iff-mul-le, le-trans, lt-of-mul-lt-mul-right, eq-or-lt-of-le}
 use native.Mathlib.Omega.{arith}
 use lib.Dec.{ltb, eqb}
-use lib.ListN.{length, getD, set, drop, take, take-append-drop, length-append, length-drop, List·getD-append}
-use lib.Seq.{sets, sets-eq, length-sets, length-take-le}
+use lib.ListN.{length, getD, drop, take, length-append, length-drop, List·getD-append}
 use borrow.Author.Tests.{eq-eqb, ne-eqb, lt-ltb, le-ltb, ltb-true, ltb-false}
 use Rattle.words.specs.Answers.{_when_, firstApplying, overwrite}
 use Rattle.words.specs.Loops.{each}
-use Rattle.words.proofs.Answers.{all-passed, not-given, first-given, when-done, when-refused}
+use Rattle.words.proofs.Answers.{all-passed, not-given, when-done, when-refused}
 use Rattle.words.proofs.Items.{item-getD, item-inside, item-end, each-eq}
-use Rattle.words.proofs.Loops.{length-each, put-next}
+use Rattle.words.proofs.Loops.{length-each}
 use Rattle.mode.specs.Table.{hasDepth, pce-sprite}
 use Rattle.tile.specs.Inner.{Unpacks}
 use Rattle.tile.specs.Packings.{byteCount, unpackedIn}
 use Rattle.tile.specs.Tile.{packingOf, layoutOf, unpacked}
 use Rattle.tile.specs.declared.Packing.{Packing}
 use Rattle.tile.proofs.Native.{Native, fitting}
-use Rattle.tile.proofs.RoundTrip.{length-spread}
+use Rattle.tile.proofs.RoundTrip.{length-spread, spread-lt}
 use Rattle.flip.proofs.Group.{place-lt, place-row, place-column}
 use Rattle.tileset.specs.Sets.{isSize, setSays, setRoom, heldSays, noSet}
-use Rattle.tileset.specs.Numbers.{rowCells, startsAt, firstCell, Grid}
-use Rattle.tileset.specs.Reading.{lastCell, wholeTiles, readCount, readableSays, readChecks, readSays, readSet, cellIn, pixelIn, rowIn, tileIn, readPixels, cellsIn, placeIn, rowOf, Reads}
+use Rattle.tileset.specs.Numbers.{rowCells, startsAt, firstCell}
+use Rattle.tileset.specs.Reading.{lastCell, wholeFrom, wholeTiles, readCount, readableChecks, readableSays, readSays, readSet, cellIn, pixelIn, rowIn, tileIn, readPixels, Reads}
+use Rattle.tileset.specs.Inner.{Grid, cellsIn, placeIn, rowOf}
 use Rattle.tileset.specs.declared.Set.{Set}
 use Rattle.tileset.specs.declared.SetAnswer.{SetAnswer}
-use Rattle.tileset.proofs.Sizes.{IsSet, set-of, grid-set, bits-some}
-use Rattle.tileset.proofs.Says.{next-given, held-0, refused-set, done-set}
+use Rattle.tileset.proofs.Sizes.{IsSet, set-of, bits-some}
+use Rattle.tileset.proofs.Says.{checks-given, checks-after, checks-first, checks-rest, held-0, refused-set, done-set}
 use Rattle.tileset.proofs.NumberLaws.{row-some, start-row, start-across}
 
 -- ---- how many tiles are whole
 
-module _ (r h v : ℕ) (g : Grid r h v) (c : ℕ) where
+module _ (r h v c : ℕ) where
+  complete-case : (n k w : ℕ) (b : Bool) → ltb (lastCell r h v n) c ≡ b → (suc n ≤ k → k < suc n + w → lastCell r h v k < c) → n ≤ k → k < n + cond b (suc w) 0
+      → lastCell r h v k < c
+  complete-case n k w true e more le lt = ⊎-elim (λ q. rw (← q) (ltb-true (lastCell r h v n) c e)) (λ l. more l (omega arith)) (eq-or-lt-of-le le)
+  complete-case n k w false e more le lt = omega arith
+
+  complete-from : (n fuel k : ℕ) → n ≤ k → k < n + wholeFrom r h v c n fuel → lastCell r h v k < c
+  complete-from n zero k le lt = omega arith
+  complete-from n (suc fuel) k le lt =
+      complete-case n k (wholeFrom r h v c (suc n) fuel) (ltb (lastCell r h v n) c) refl (complete-from (suc n) fuel k) le lt
+
+  -- every tile that is counted is complete
+  pub tile-complete : (n : ℕ) → n < wholeTiles r h v c → lastCell r h v n < c
+  unfolding wholeTiles
+  tile-complete n lt = complete-from 0 c n (omega arith) (omega arith)
+
+  -- where each tile has a cell of its own
+  module _ (own : (n : ℕ) → n ≤ lastCell r h v n) where
+    stops-case : (n w : ℕ) (b : Bool) → ltb (lastCell r h v n) c ≡ b → c ≤ lastCell r h v (suc n + w) → c ≤ lastCell r h v (n + cond b (suc w) 0)
+    stops-case n w true e more = let q : n + suc w ≡ suc n + w = omega arith in rw q more
+    stops-case n w false e more = rw (add-zero n) (ltb-false (lastCell r h v n) c e)
+
+    stops-from : (n fuel : ℕ) → c ≤ n + fuel → c ≤ lastCell r h v (n + wholeFrom r h v c n fuel)
+    stops-from n zero le = omega (arith, own (n + 0))
+    stops-from n (suc fuel) le =
+        stops-case n (wholeFrom r h v c (suc n) fuel) (ltb (lastCell r h v n) c) refl (stops-from (suc n) fuel (omega arith))
+
+    -- "stops at the first incomplete tile"
+    pub next-incomplete : c ≤ lastCell r h v (wholeTiles r h v c)
+    unfolding wholeTiles
+    next-incomplete = rw (← zero-add (wholeFrom r h v c 0 c)) (stops-from 0 c (omega arith))
+
+    -- and no other number of tiles is so
+    pub whole-only : (k : ℕ) → ((n : ℕ) → n < k → lastCell r h v n < c) → c ≤ lastCell r h v k → wholeTiles r h v c ≡ k
+    whole-only k complete stops =
+        let w = wholeTiles r h v c in
+        let low : w < k → ⊥ = λ l. omega (arith, complete w l, next-incomplete) in
+        let high : k < w → ⊥ = λ l. omega (arith, tile-complete k l) in
+        omega (arith, low, high)
+
+-- ---- their number, in one formula: those of whole strips of cells, and in the strip after them as many as its last row of cells has
+
+module _ (r h v : ℕ) (g : Grid r h v) where
   abbrev strip : ℕ
   strip = v * r
 
   abbrev tiles : ℕ
   tiles = r / h
 
-  abbrev rest : ℕ
-  rest = c % strip - (v - 1) * r
-
   pub strip-some : 0 < strip
   strip-some = mul-pos (g .down) (row-some r h v g)
-
-  pub whole-fits : c / strip * tiles ≤ c / strip * strip
-  whole-fits =
-      let one : 1 * r ≤ v * r = mul-le-mul-right r (g .down) in
-      mul-le-mul-left (c / strip) (omega (arith, div-le-self r h, one))
-
-  pub count-fits : c / strip * tiles + rest / h ≤ c
-  count-fits = omega (arith, whole-fits, div-le-self rest h, div-add-mod' c strip)
-
-  -- no tile of a strip that ends before its last row of cells
-  pub whole-only : c % strip < (v - 1) * r → c / strip * tiles ≡ wholeTiles r h v c
-  unfolding wholeTiles
-  whole-only lt =
-      let none : rest ≡ 0 = omega arith in
-      sym (ap (λ (k : ℕ). c / strip * tiles + k / h) none ∙ ap (λ (k : ℕ). c / strip * tiles + k) (zero-div h) ∙ add-zero (c / strip * tiles))
 
   -- a strip of cells is the rows above the last one, and the last
   strip-is : strip ≡ (v - 1) * r + r
@@ -69,45 +93,68 @@ module _ (r h v : ℕ) (g : Grid r h v) (c : ℕ) where
       let e : v ≡ v - 1 + 1 = omega (arith, g .down) in
       ap (λ (k : ℕ). k * r) e ∙ add-mul (v - 1) 1 r ∙ ap (λ (k : ℕ). (v - 1) * r + k) (one-mul r)
 
-  last-few : rest / h < tiles
-  last-few =
-      let few : c % strip < strip = mod-lt c strip-some in
-      div-lt-iff-lt-mul (g .across) .1 (omega (arith, strip-is, sym (g .row), row-some r h v g))
+  tiles-strip : tiles ≤ strip
+  tiles-strip = omega (arith, div-le-self r h, strip-is)
+
+  pub own-cell : (n : ℕ) → n ≤ lastCell r h v n
+  unfolding startsAt
+  own-cell n =
+      let rows : n / tiles * tiles ≤ n / tiles * strip = mul-le-mul-left (n / tiles) tiles-strip in
+      let columns : n % tiles * 1 ≤ n % tiles * h = mul-le-mul-left (n % tiles) (g .across) in
+      omega (arith, div-add-mod' n tiles, mul-assoc (n / tiles) v r)
 
   -- the tile in row i of tiles and column j
   starts : (i j : ℕ) → j < tiles → lastCell r h v (i * tiles + j) ≡ i * strip + j * h + (v - 1) * r + (h - 1)
   unfolding startsAt
   starts i j lt = rw (place-row tiles i j lt, place-column tiles i j lt, mul-assoc i v r)
 
-  -- "stops at the first incomplete tile": tile n is not complete where n is the count
-  pub next-incomplete : c ≤ lastCell r h v (wholeTiles r h v c)
-  unfolding wholeTiles
-  next-incomplete =
-      rw (starts (c / strip) (rest / h) last-few)
-      (omega (arith, div-add-mod' c strip, div-add-mod' rest h, mod-lt rest (g .across)))
+  module _ (c : ℕ) where
+    abbrev rest : ℕ
+    rest = c % strip - (v - 1) * r
 
-  -- and every tile before it is
-  complete-case : (i j : ℕ) → j < tiles → i * tiles + j < c / strip * tiles + rest / h → (b : Bool) → ltb i (c / strip) ≡ b
-      → i * strip + j * h + (v - 1) * r + (h - 1) < c
-  complete-case i j lt before true e =
-      let last : j * h + h ≤ tiles * h = item-inside h tiles j lt in
-      let all : i * strip + strip ≤ c / strip * strip = item-inside strip (c / strip) i (ltb-true i (c / strip) e) in
-      omega (arith, strip-is, sym (g .row), g .across, div-add-mod' c strip)
-  complete-case i j lt before false e =
-      let from : c / strip ≤ i = ltb-false i (c / strip) e in
-      let upto : i < c / strip + 1 = lt-of-mul-lt-mul-right tiles (omega (arith, add-mul (c / strip) 1 tiles, last-few)) in
-      let same : i ≡ c / strip = omega arith in
-      let few : j < rest / h = omega (arith, ap (λ (k : ℕ). k * tiles) same) in
-      let cells : j * h + h ≤ rest / h * h = item-inside h (rest / h) j few in
-      omega (arith, ap (λ (k : ℕ). k * strip) same, div-add-mod' c strip, div-add-mod' rest h, g .across)
+    pub whole-fits : c / strip * tiles ≤ c / strip * strip
+    whole-fits = mul-le-mul-left (c / strip) tiles-strip
 
-  pub tile-complete : (n : ℕ) → n < wholeTiles r h v c → lastCell r h v n < c
-  unfolding wholeTiles
-  tile-complete n lt =
-      let e : n / tiles * tiles + n % tiles ≡ n = div-add-mod' n tiles in
-      let small : n % tiles < tiles = mod-lt n (g .tiles) in
-      let there = complete-case (n / tiles) (n % tiles) small (omega arith) (ltb (n / tiles) (c / strip)) refl in
-      subst (λ (k : ℕ). lastCell r h v k < c) e (rw (starts (n / tiles) (n % tiles) small) there)
+    pub count-fits : c / strip * tiles + rest / h ≤ c
+    count-fits = omega (arith, whole-fits, div-le-self rest h, div-add-mod' c strip)
+
+    last-few : rest / h < tiles
+    last-few =
+        let few : c % strip < strip = mod-lt c strip-some in
+        div-lt-iff-lt-mul (g .across) .1 (omega (arith, strip-is, sym (g .row), row-some r h v g))
+
+    formula-stops : c ≤ lastCell r h v (c / strip * tiles + rest / h)
+    formula-stops = rw (starts (c / strip) (rest / h) last-few) (omega (arith, div-add-mod' c strip, div-add-mod' rest h, mod-lt rest (g .across)))
+
+    formula-case : (i j : ℕ) → j < tiles → i * tiles + j < c / strip * tiles + rest / h → (b : Bool) → ltb i (c / strip) ≡ b
+        → i * strip + j * h + (v - 1) * r + (h - 1) < c
+    formula-case i j lt before true e =
+        let last : j * h + h ≤ tiles * h = item-inside h tiles j lt in
+        let all : i * strip + strip ≤ c / strip * strip = item-inside strip (c / strip) i (ltb-true i (c / strip) e) in
+        omega (arith, strip-is, sym (g .row), g .across, div-add-mod' c strip)
+    formula-case i j lt before false e =
+        let from : c / strip ≤ i = ltb-false i (c / strip) e in
+        let upto : i < c / strip + 1 = lt-of-mul-lt-mul-right tiles (omega (arith, add-mul (c / strip) 1 tiles, last-few)) in
+        let same : i ≡ c / strip = omega arith in
+        let few : j < rest / h = omega (arith, ap (λ (k : ℕ). k * tiles) same) in
+        let cells : j * h + h ≤ rest / h * h = item-inside h (rest / h) j few in
+        omega (arith, ap (λ (k : ℕ). k * strip) same, div-add-mod' c strip, div-add-mod' rest h, g .across)
+
+    formula-complete : (n : ℕ) → n < c / strip * tiles + rest / h → lastCell r h v n < c
+    formula-complete n lt =
+        let e : n / tiles * tiles + n % tiles ≡ n = div-add-mod' n tiles in
+        let small : n % tiles < tiles = mod-lt n (g .tiles) in
+        let there = formula-case (n / tiles) (n % tiles) small (omega arith) (ltb (n / tiles) (c / strip)) refl in
+        subst (λ (k : ℕ). lastCell r h v k < c) e (rw (starts (n / tiles) (n % tiles) small) there)
+
+    pub whole-tiles-are : wholeTiles r h v c ≡ c / (v * r) * (r / h) + (c % (v * r) - (v - 1) * r) / h
+    whole-tiles-are = whole-only r h v c own-cell (c / strip * tiles + rest / h) formula-complete formula-stops
+
+    -- no tile of a strip that ends before its last row of cells
+    pub strips-only : c % strip < (v - 1) * r → c / strip * tiles ≡ wholeTiles r h v c
+    strips-only lt =
+        let none : rest ≡ 0 = omega arith in
+        sym (whole-tiles-are ∙ ap (λ (k : ℕ). c / strip * tiles + k / h) none ∙ ap (λ (k : ℕ). c / strip * tiles + k) (zero-div h) ∙ add-zero (c / strip * tiles))
 
 -- ---- the checks
 
@@ -137,15 +184,17 @@ module _ (m d w h : ℕ) where
     abbrev count : ℕ
     count = readCount m d w h len
 
+    abbrev last : List ℕ
+    last = 7 when not (eqb (len % (d * 8)) 0) ∷ 11 when ltb space (count * (w * h)) ∷ 12 when ltb 65535 count ∷ []
+
     pub read-first : (n : ℕ) → n ≡ readableSays m d w h → (n ≡ 0 → ⊥) → n ≡ readSays m d w h len space
-    unfolding readSays
-    read-first n e due =
-        first-given n (7 when not (eqb (len % (d * 8)) 0) ∷ 11 when ltb space (count * (w * h)) ∷ 12 when ltb 65535 count ∷ []) e due
+    unfolding readSays readableSays
+    read-first n e due = checks-given (readableChecks m d w h) last n e due
 
     module _ (z : readableSays m d w h ≡ 0) where
-      after : readSays m d w h len space ≡ firstApplying (7 when not (eqb (len % (d * 8)) 0) ∷ 11 when ltb space (count * (w * h)) ∷ 12 when ltb 65535 count ∷ [])
-      unfolding readSays
-      after = next-given (7 when not (eqb (len % (d * 8)) 0) ∷ 11 when ltb space (count * (w * h)) ∷ 12 when ltb 65535 count ∷ []) z
+      after : readSays m d w h len space ≡ firstApplying last
+      unfolding readSays readableSays
+      after = checks-after (readableChecks m d w h) last z
 
       pub read-7 : (len % (d * 8) ≡ 0 → ⊥) → 7 ≡ readSays m d w h len space
       read-7 part = rw (after, ne-eqb (len % (d * 8)) 0 part)
@@ -161,22 +210,27 @@ module _ (m d w h : ℕ) where
 
     module _ (z : readSays m d w h len space ≡ 0) where
       pub read-readable : readableSays m d w h ≡ 0
+      unfolding readSays readableSays
+      read-readable = checks-first (readableChecks m d w h) last z
+
+      passed : (k : ℕ) → getD last k 0 ≡ 0
       unfolding readSays
-      read-readable = all-passed (readChecks m d w h len space) z 0
+      passed = all-passed last (checks-rest (readableChecks m d w h) last z)
 
       pub read-space : count * (w * h) ≤ space
-      unfolding readSays
-      read-space = ltb-false space (count * (w * h)) (not-given 10 (ltb space (count * (w * h))) (all-passed (readChecks m d w h len space) z 2))
+      read-space = ltb-false space (count * (w * h)) (not-given 10 (ltb space (count * (w * h))) (passed 1))
 
       pub read-few : count ≤ 65535
-      unfolding readSays
-      read-few = ltb-false 65535 count (not-given 11 (ltb 65535 count) (all-passed (readChecks m d w h len space) z 3))
+      read-few = ltb-false 65535 count (not-given 11 (ltb 65535 count) (passed 2))
+
+      pub read-set-of : IsSet m d w h
+      read-set-of = set-of m d w h (readable-says-set read-readable)
 
       -- what was read is a set in its store
       pub read-held : (flips : Bool) → heldSays (readSet m d w h flips count) space ≡ 0
       unfolding setRoom
       read-held flips =
-          let s = set-of m d w h (readable-says-set read-readable) in
+          let s = read-set-of in
           let whole : count ≤ space / (w * h) = le-div-iff-mul-le {k = w * h} (mul-pos (s .some) (s .tall)) .1 read-space in
           sym (held-0 (readSet m d w h flips count) space (readable-says-set read-readable) (omega (arith, read-few)))
 
@@ -189,6 +243,11 @@ module _ {m d : ℕ} (n : Native m d 8 8) where
 
   pub cell-in-length : (bytes : List ℕ) (c : ℕ) → length (cellIn m d bytes c) ≡ 64
   cell-in-length bytes c = length-spread (layoutOf m d 8 8 .pixels) (take (d * 8) (drop (c * (d * 8)) bytes)) ∙ fitting n .pixels
+
+  pub cell-in-small : (bytes : List ℕ) (c j : ℕ) → j < 64 → getD (cellIn m d bytes c) j 0 < 2 ^ d
+  cell-in-small bytes c j lt =
+      subst (λ (k : ℕ). getD (cellIn m d bytes c) j 0 < 2 ^ k) (fitting n .bits)
+      (spread-lt (layoutOf m d 8 8 .pixels) (take (d * 8) (drop (c * (d * 8)) bytes)) j (rw (fitting n .pixels) lt))
 
   module _ {p : Packing} (q : p ≡ packingOf m d 8 8) where
     pub unpacks-at : (bytes out : List ℕ) (from at : ℕ) → from + d * 8 ≤ length bytes → at + 64 ≤ length out → Unpacks p bytes from out at
@@ -235,47 +294,6 @@ module _ (r h v : ℕ) (g : Grid r h v) (n k : ℕ) (lt : k < h * v) where
     where
       cell-row-few : k / h ≤ 8
       cell-row-few = omega (arith, cell-row, g .low)
-
--- ---- the loop that puts items of k bytes one after the other, from place at on
-
-pub record FillingAt (f : ℕ → List ℕ) (k : ℕ) (out : List ℕ) (at i : ℕ) (now : List ℕ) : Type 0 where
-  pub is : now ≡ (take at out ++ each i f) ++ drop (at + i * k) out
-  pub long : length now ≡ length out
-
-pub fill-at-none : (f : ℕ → List ℕ) (k : ℕ) (out : List ℕ) (at : ℕ) → FillingAt f k out at 0 out
-fill-at-none f k out at =
-    let e : at + 0 * k ≡ at = omega (arith, zero-mul k) in
-    record { is = sym (rw (append-nil, e) (take-append-drop at out)); long = refl }
-
-pub fill-at-more : {f : ℕ → List ℕ} {k : ℕ} {out now after : List ℕ} {at i : ℕ} → ((j : ℕ) → length (f j) ≡ k) → FillingAt f k out at i now → at + i * k + k ≤ length out
-    → after ≡ sets now (at + i * k) (f i) → FillingAt f k out at (i + 1) after
-fill-at-more {f} {k} {out} {now} {after} {at} {i} size h space e =
-    let front = take at out ++ each i f in
-    let len : length front ≡ at + i * k = length-append (take at out) (each i f) ∙ rw (length-take-le at out (omega arith), length-each i k f size) in
-    let end : at + i * k + k ≡ at + (i + 1) * k = omega (arith, item-end k i) in
-    record {
-      is =
-          e ∙ ap (λ (l : List ℕ). sets l (at + i * k) (f i)) (h .is)
-          ∙ put-next front (f i) out (at + i * k) k len (size i) space
-          ∙ ap (λ (l : List ℕ). l ++ drop (at + i * k + k) out) (append-assoc (take at out) (each i f) (f i))
-          ∙ ap (λ (j : ℕ). (take at out ++ each (suc i) f) ++ drop j out) end
-          ∙ ap (λ (j : ℕ). (take at out ++ each j f) ++ drop (at + (i + 1) * k) out) (sym (add-one i));
-      long = ap length e ∙ length-sets now (at + i * k) (f i) ∙ h .long;
-    }
-
-pub fill-at-all : {f : ℕ → List ℕ} {k : ℕ} {out now : List ℕ} {at i n : ℕ} → ((j : ℕ) → length (f j) ≡ k) → FillingAt f k out at i now → at + n * k ≤ length out → i ≡ n
-    → now ≡ sets out at (each n f)
-fill-at-all {f} {k} {out} {now} {at} {i} {n} size h space e =
-    let len : length (each n f) ≡ n * k = length-each n k f size in
-    h .is ∙ ap (λ (j : ℕ). (take at out ++ each j f) ++ drop (at + j * k) out) e
-    ∙ ap (λ (j : ℕ). (take at out ++ each n f) ++ drop (at + j) out) (sym len)
-    ∙ sym (sets-eq (each n f) out at (omega arith))
-
--- one pixel more
-pub fill-at-one : {g : ℕ → ℕ} {out now : List ℕ} {at i v : ℕ} → FillingAt (λ k. g k ∷ []) 1 out at i now → at + i < length out → v ≡ g i
-    → FillingAt (λ k. g k ∷ []) 1 out at (i + 1) (set now (at + i) v)
-fill-at-one {g} {out} {now} {at} {i} {v} h space e =
-    fill-at-more (λ j. refl) h (omega arith) (ap (λ (x : ℕ). set now (at + i) x) e ∙ ap (λ (k : ℕ). set now (at + k) (g i)) (sym (mul-one i)))
 
 -- ---- the rows of a tile, out of its cells' pixels
 
@@ -334,18 +352,25 @@ module _ {m d w h : ℕ} (s : IsSet m d w h) (n : Native m d 8 8) (bytes rest : 
       (λ y hy. each-eq w (λ x. getD cells (placeIn w y x) 0 ∷ []) (λ x. pixelIn m d w h bytes t y x ∷ [])
       (λ x hx. ap (λ (k : ℕ). k ∷ []) (ap (λ (l : List ℕ). getD l (placeIn w y x) 0) e ∙ pixel-is y x hy hx)))
 
+pub row-in-length : (m d w h : ℕ) (bytes : List ℕ) (n y : ℕ) → length (rowIn m d w h bytes n y) ≡ w
+row-in-length m d w h bytes n y = length-each w 1 (λ x. pixelIn m d w h bytes n y x ∷ []) (λ x. refl) ∙ mul-one w
+
 pub tile-length : (m d w h : ℕ) (bytes : List ℕ) (n : ℕ) → length (tileIn m d w h bytes n) ≡ w * h
-tile-length m d w h bytes n =
-    length-each h w (rowIn m d w h bytes n) (λ y. length-each w 1 (λ x. pixelIn m d w h bytes n y x ∷ []) (λ x. refl) ∙ mul-one w) ∙ mul-comm h w
+tile-length m d w h bytes n = length-each h w (rowIn m d w h bytes n) (row-in-length m d w h bytes n) ∙ mul-comm h w
+
+-- the pixels that reading puts into the store: 11 is by their number
+pub read-length : (m d w h : ℕ) (bytes : List ℕ) → length (readPixels m d w h bytes) ≡ readCount m d w h (length bytes) * (w * h)
+unfolding readPixels
+read-length m d w h bytes = length-each (readCount m d w h (length bytes)) (w * h) (tileIn m d w h bytes) (tile-length m d w h bytes)
 
 -- ---- the tiles
 
-module _ {m d w h : ℕ} (s : IsSet m d w h) (other : m ≡ pce-sprite → ⊥) (len : ℕ) where
+module _ {m d w h : ℕ} (s : IsSet m d w h) (len : ℕ) where
   -- the bytes have the cells of each tile that is read
   pub tile-inside : (n : ℕ) → n < readCount m d w h len → (lastCell (rowCells m) (w / 8) (h / 8) n + 1) * (d * 8) ≤ len
   tile-inside n lt =
       let size : 0 < d * 8 = omega (arith, bits-some s) in
-      let last = tile-complete (rowCells m) (w / 8) (h / 8) (grid-set s other) (len / (d * 8)) n lt in
+      let last = tile-complete (rowCells m) (w / 8) (h / 8) (len / (d * 8)) n lt in
       le-div-iff-mul-le {k = d * 8} size .0 (omega arith)
 
 -- ---- the promise

@@ -1,21 +1,21 @@
--- The cells of a set: they fit, and stand in the store.
+-- The cells and bytes of a set: how many they are, where they stand in the store, and the checks of writing.
 -- Assumes nothing.
 use mathlib.Core.Path.{_≡_, refl, sym, ap, _∙_, subst}
 use mathlib.Core.Bool.{Bool, true, false, and-false}
-use mathlib.Core.List.{List, [], _∷_, _++_, append-nil}
+use mathlib.Core.List.{List, [], _∷_}
 use Prim.Native.Nat.{ℕ, _+_, _-_, _*_, _/_, _%_, _<_, _≤_}
-use native.Mathlib.Nat.{mod-lt, div-le-self, mul-le-mul, mul-le-mul-right, add-mul, suc-mul, mul-comm, le-refl, le-trans, mul-one, zero-mul, mul-pos, le-div-iff-mul-le}
-use native.Mathlib.Numerals.{add-one}
+use native.Mathlib.Nat.{mod-lt, div-le-self, mul-le-mul, mul-le-mul-right, add-mul, suc-mul, mul-comm, le-refl, le-trans, mul-one, zero-add, mul-pos, le-div-iff-mul-le}
 use native.Mathlib.Omega.{arith}
 use lib.Dec.{T, ltb, eqb}
-use lib.ListN.{length, getD, set, drop, take, replicate, drop-of-length-le}
-use lib.Seq.{sets, length-sets, take-all}
-use borrow.Author.Tests.{eq-eqb, ne-eqb, lt-ltb, le-ltb, ltb-false}
-use Rattle.words.specs.Answers.{_when_, firstApplying, overwrite}
+use lib.ListN.{length, getD, set, drop, take, replicate}
+use lib.Seq.{sets, take-all}
+use borrow.Author.Tests.{eq-eqb, ne-eqb, eqb-true, eqb-false, lt-ltb, le-ltb, ltb-false}
+use Rattle.words.specs.Answers.{_when_, firstApplying}
 use Rattle.words.specs.Loops.{each, some}
-use Rattle.words.proofs.Answers.{first-given, all-passed, not-given}
-use Rattle.words.proofs.Items.{put-item, item-inside}
-use Rattle.words.proofs.Loops.{length-each, put-next}
+use Rattle.words.proofs.Answers.{all-passed, not-given}
+use Rattle.words.proofs.Filling.{Filled, filled-more}
+use Rattle.words.proofs.Items.{item-getD, item-inside}
+use Rattle.words.proofs.Loops.{length-each}
 use Rattle.mode.specs.Table.{pce-sprite}
 use Rattle.tile.specs.Inner.{Packs}
 use Rattle.tile.specs.Packings.{pixelCount, packedIn}
@@ -23,12 +23,13 @@ use Rattle.tile.specs.Tile.{isNative, packingOf, layoutOf, packed, tooLarge}
 use Rattle.tile.specs.declared.Packing.{Packing}
 use Rattle.tile.proofs.Native.{Native, fitting}
 use Rattle.tile.proofs.RoundTrip.{length-spread}
-use Rattle.tileset.specs.Sets.{area, isSize, heldSays}
-use Rattle.tileset.specs.Numbers.{rowCells, tileOf, Grid}
-use Rattle.tileset.specs.Writing.{paddedCells, cellCount, cornerOf, block, cellPixels, spriteBytes, cellBytes, cellsOf, setBytes, writeSize, writeChecks, writeSays}
+use Rattle.tileset.specs.Sets.{area, isSize, heldChecks, heldSays}
+use Rattle.tileset.specs.Numbers.{rowCells}
+use Rattle.tileset.specs.Writing.{paddedCells, cellCount, cornerOf, block, tileAt, cornerAt, cellPixels, spriteBytes, cellBytes, cellsOf, setBytes, writeSize, writeSays}
+use Rattle.tileset.specs.Inner.{Grid}
 use Rattle.tileset.specs.declared.Set.{Set}
 use Rattle.tileset.proofs.Sizes.{IsSet, grid-set}
-use Rattle.tileset.proofs.Says.{next-given, held-set, held-room, room-most, room-whole}
+use Rattle.tileset.proofs.Says.{checks-given, checks-after, checks-first, checks-rest, held-set, held-room, room-most, room-whole}
 
 -- ---- whole rows of cells
 
@@ -73,52 +74,21 @@ module _ (w h y x : ℕ) (ew : w ≡ w / 8 * 8) (eh : h ≡ h / 8 * 8) (hy : y <
   pub block-in-store : (t n len : ℕ) → t < n → n * (w * h) ≤ len → t * (w * h) + y * 8 * w + x * 8 + 7 * w + 8 ≤ len
   block-in-store t n len lt fits = omega (arith, block-inside, mul-le-mul-right (w * h) lt, suc-mul t (w * h))
 
--- ---- the loop that gathers a block
+-- number i of numbers put one after the other
+pub each-getD : (n : ℕ) (g : ℕ → ℕ) (i : ℕ) → i < n → getD (each n (λ k. g k ∷ [])) i 0 ≡ g i
+each-getD n g i lt =
+    let f : ℕ → List ℕ = λ k. g k ∷ [] in
+    let e : i * 1 + 0 ≡ i = omega arith in
+    ap (λ (k : ℕ). getD (each n f) k 0) (sym e) ∙ item-getD 1 f (λ k. refl) n i lt 0 (omega arith)
 
+-- pixel i of a block
 pub block-at : (w corner len i : ℕ) → corner + 7 * w + 8 ≤ len → i < 64 → corner + i / 8 * w + i % 8 < len
 block-at w corner len i fits lt =
     let rows : i / 8 * w ≤ 7 * w = mul-le-mul-right w (omega arith) in
     omega arith
 
-pub take-block-more : (f : ℕ → ℕ) (out now : List ℕ) (i v : ℕ) → now ≡ each i (λ k. f k ∷ []) ++ drop i out → i < length out → v ≡ f i
-    → set now i v ≡ each (i + 1) (λ k. f k ∷ []) ++ drop (i + 1) out
-take-block-more f out now i v e lt q =
-    let g : ℕ → List ℕ = λ k. f k ∷ [] in
-    let len : length (each i g) ≡ i = length-each i 1 g (λ k. refl) ∙ mul-one i in
-    ap (λ (l : List ℕ). set l i v) e
-    ∙ ap (λ (x : ℕ). set (each i g ++ drop i out) i x) q
-    ∙ put-next (each i g) (f i ∷ []) out i 1 len refl (omega arith)
-    ∙ ap (λ (k : ℕ). each k g ++ drop (i + 1) out) (sym (add-one i))
-
-pub take-block-all : (f : ℕ → ℕ) (out now : List ℕ) (i n : ℕ) → now ≡ each i (λ k. f k ∷ []) ++ drop i out → length out ≡ n → i ≡ n → now ≡ each n (λ k. f k ∷ [])
-take-block-all f out now i n e len q =
-    e ∙ ap (λ (k : ℕ). each k (λ k. f k ∷ []) ++ drop k out) q
-    ∙ ap (λ (l : List ℕ). each n (λ k. f k ∷ []) ++ l) (drop-of-length-le out {i = n} (omega arith))
-    ∙ append-nil (each n (λ k. f k ∷ []))
-
 pub block-length : (store : List ℕ) (corner w : ℕ) → length (block store corner w) ≡ 64
 block-length store corner w = length-each 64 1 (λ i. getD store (corner + i / 8 * w + i % 8) 0 ∷ []) (λ i. refl)
-
--- ---- the loop that puts items of k bytes one after the other
-
-pub record Filling (f : ℕ → List ℕ) (k : ℕ) (out : List ℕ) (i : ℕ) (now : List ℕ) : Type 0 where
-  pub is : now ≡ each i f ++ drop (i * k) out
-  pub long : length now ≡ length out
-
-pub fill-none : (f : ℕ → List ℕ) (k : ℕ) (out : List ℕ) → Filling f k out 0 out
-fill-none f k out = record { is = ap (λ (n : ℕ). drop n out) (sym (zero-mul k)); long = refl }
-
-pub fill-more : {f : ℕ → List ℕ} {k : ℕ} {out now after : List ℕ} {i : ℕ} → ((j : ℕ) → length (f j) ≡ k) → Filling f k out i now → i * k + k ≤ length out
-    → after ≡ sets now (i * k) (f i) → Filling f k out (i + 1) after
-fill-more {f} {k} {out} {now} {after} {i} size h space e =
-    record {
-      is = e ∙ ap (λ (l : List ℕ). sets l (i * k) (f i)) (h .is) ∙ put-item k f size i out space;
-      long = ap length e ∙ length-sets now (i * k) (f i) ∙ h .long;
-    }
-
-pub fill-all : {f : ℕ → List ℕ} {k : ℕ} {out now : List ℕ} {i n : ℕ} → ((j : ℕ) → length (f j) ≡ k) → Filling f k out i now → i ≡ n → now ≡ overwrite out (each n f)
-fill-all {f} {k} {out} {now} {i} {n} size h e =
-    h .is ∙ ap (λ (j : ℕ). each j f ++ drop (j * k) out) e ∙ ap (λ (j : ℕ). each n f ++ drop j out) (sym (length-each n k f size))
 
 -- ---- native cells and sprites
 
@@ -166,29 +136,38 @@ module _ (z : Set) (len : ℕ) (held : heldSays z len ≡ 0) where
       packed-length (native-sprite sound is) (take (area z) (drop (i * area z) store))
 
   -- the cell of a tile stands among the counted pixels, and so in the store
-  pub corner-counted : (z .mode ≡ pce-sprite → ⊥) → (c : ℕ) → tileOf (z .mode) (z .width) (z .height) c < z .stored
-      → cornerOf (z .mode) (z .width) (z .height) c + 7 * z .width + 8 ≤ z .stored * area z
-  unfolding cornerOf
-  corner-counted other c lt =
-      let g = grid-set sound other in
-      block-in-store (z .width) (z .height) (c / rowCells (z .mode) % (z .height / 8)) (c % rowCells (z .mode) % (z .width / 8)) (sound .across) (sound .down)
-      (mod-lt (c / rowCells (z .mode)) (g .down)) (mod-lt (c % rowCells (z .mode)) (g .across)) (tileOf (z .mode) (z .width) (z .height) c) (z .stored) (z .stored * area z) lt (le-refl (z .stored * area z))
+  module _ (other : z .mode ≡ pce-sprite → ⊥) (c : ℕ) (lt : tileAt z c < z .stored) where
+    pub corner-counted : cornerAt z c + 7 * z .width + 8 ≤ z .stored * area z
+    unfolding cornerOf
+    corner-counted =
+        let g = grid-set sound other in
+        let r = rowCells (z .mode) in
+        block-in-store (z .width) (z .height) (c / r % (z .height / 8)) (c % r % (z .width / 8)) (sound .across) (sound .down)
+        (mod-lt (c / r) (g .down)) (mod-lt (c % r) (g .across)) (tileAt z c) (z .stored) (z .stored * area z) lt (le-refl (z .stored * area z))
 
-  pub corner-inside : (z .mode ≡ pce-sprite → ⊥) → (c : ℕ) → tileOf (z .mode) (z .width) (z .height) c < z .stored → cornerOf (z .mode) (z .width) (z .height) c + 7 * z .width + 8 ≤ len
-  corner-inside other c lt = le-trans (corner-counted other c lt) held-inside
+    pub corner-inside : cornerAt z c + 7 * z .width + 8 ≤ len
+    corner-inside = le-trans corner-counted held-inside
+
+-- ---- filling a slice from its start
+
+pub front-more : (k : ℕ) {f : ℕ → List ℕ} {out now then : List ℕ} {i : ℕ} → ((j : ℕ) → length (f j) ≡ k) → Filled f out 0 i now
+    → then ≡ sets now (i * k) (f i) → Filled f out 0 (i + 1) then
+front-more k {f} {now} {i} size h e = filled-more k size h (e ∙ ap (λ (n : ℕ). sets now n (f i)) (sym (zero-add (i * k))))
+
+pub front-one : {g : ℕ → ℕ} {out now : List ℕ} {i : ℕ} → Filled (λ k. g k ∷ []) out 0 i now → Filled (λ k. g k ∷ []) out 0 (i + 1) (set now i (g i))
+front-one {g} {now} {i} h = front-more 1 (λ j. refl) h (ap (λ (k : ℕ). set now k (g i)) (sym (mul-one i)))
 
 -- the room for one item more
 pub item-space : (n k space i : ℕ) → n * k ≤ space → i < n → i * k + k ≤ space
 item-space n k space i fits lt = omega (arith, item-inside k n i lt)
 
-pub cell-blank : (z : Set) (store : List ℕ) (c : ℕ) → z .stored ≤ tileOf (z .mode) (z .width) (z .height) c → replicate 64 0 ≡ cellPixels z store c
+pub cell-blank : (z : Set) (store : List ℕ) (c : ℕ) → z .stored ≤ tileAt z c → replicate 64 0 ≡ cellPixels z store c
 unfolding cellPixels
-cell-blank z store c h = rw (le-ltb (tileOf (z .mode) (z .width) (z .height) c) (z .stored) h)
+cell-blank z store c h = rw (le-ltb (tileAt z c) (z .stored) h)
 
-pub cell-there : (z : Set) (store : List ℕ) (c : ℕ) → tileOf (z .mode) (z .width) (z .height) c < z .stored
-    → block store (cornerOf (z .mode) (z .width) (z .height) c) (z .width) ≡ cellPixels z store c
+pub cell-there : (z : Set) (store : List ℕ) (c : ℕ) → tileAt z c < z .stored → block store (cornerAt z c) (z .width) ≡ cellPixels z store c
 unfolding cellPixels
-cell-there z store c h = rw (lt-ltb (tileOf (z .mode) (z .width) (z .height) c) (z .stored) h)
+cell-there z store c h = rw (lt-ltb (tileAt z c) (z .stored) h)
 
 -- a buffer with a cell's pixels
 pub cell-packed : {m d : ℕ} {p : Packing} (q : p ≡ packingOf m d 8 8) (n : Native m d 8 8) (buffer pixels : List ℕ) → length buffer ≡ 64 → buffer ≡ pixels
@@ -202,45 +181,69 @@ module _ (z : Set) (store : List ℕ) (space : ℕ) where
   abbrev large : Bool
   large = some (z .stored * area z) (tooLarge (z .depth) store)
 
+  abbrev first : List ℕ
+  first = heldChecks z (length store)
+
+  abbrev rest : List ℕ
+  rest = 8 when large ∷ 11 when ltb space (writeSize z) ∷ []
+
   pub write-first : (n : ℕ) → n ≡ heldSays z (length store) → (n ≡ 0 → ⊥) → n ≡ writeSays z store space
-  unfolding writeSays
-  write-first n e h = first-given n (8 when large ∷ 11 when ltb space (writeSize z) ∷ []) e h
+  unfolding writeSays heldSays
+  write-first n e due = checks-given first rest n e due
 
   module _ (held : heldSays z (length store) ≡ 0) where
-    rest : writeSays z store space ≡ firstApplying (8 when large ∷ 11 when ltb space (writeSize z) ∷ [])
-    unfolding writeSays
-    rest = next-given (8 when large ∷ 11 when ltb space (writeSize z) ∷ []) held
+    after : writeSays z store space ≡ firstApplying rest
+    unfolding writeSays heldSays
+    after = checks-after first rest held
 
     pub write-8 : large ≡ true → 8 ≡ writeSays z store space
-    write-8 e = sym (rest ∙ ap (λ (b : Bool). firstApplying (8 when b ∷ 11 when ltb space (writeSize z) ∷ [])) e)
+    write-8 e = sym (after ∙ rw e)
 
     pub write-11 : large ≡ false → space < writeSize z → 11 ≡ writeSays z store space
-    write-11 e lt =
-        sym (rest ∙ ap (λ (b : Bool). firstApplying (8 when b ∷ 11 when ltb space (writeSize z) ∷ [])) e ∙ ap (λ (b : Bool). firstApplying (11 when b ∷ [])) (lt-ltb space (writeSize z) lt))
+    write-11 e lt = sym (after ∙ rw (e, lt-ltb space (writeSize z) lt))
 
     pub write-0 : large ≡ false → writeSize z ≤ space → 0 ≡ writeSays z store space
-    write-0 e le =
-        sym (rest ∙ ap (λ (b : Bool). firstApplying (8 when b ∷ 11 when ltb space (writeSize z) ∷ [])) e ∙ ap (λ (b : Bool). firstApplying (11 when b ∷ [])) (le-ltb space (writeSize z) le))
+    write-0 e le = sym (after ∙ rw (e, le-ltb space (writeSize z) le))
 
-  pub write-held : writeSays z store space ≡ 0 → heldSays z (length store) ≡ 0
-  unfolding writeSays
-  write-held e = all-passed (writeChecks z store space) e 0
+  module _ (done : writeSays z store space ≡ 0) where
+    pub write-held : heldSays z (length store) ≡ 0
+    unfolding writeSays heldSays
+    write-held = checks-first first rest done
 
-  pub write-space : writeSays z store space ≡ 0 → writeSize z ≤ space
-  unfolding writeSays
-  write-space e = ltb-false space (writeSize z) (not-given 10 (ltb space (writeSize z)) (all-passed (writeChecks z store space) e 2))
+    passed : (k : ℕ) → getD rest k 0 ≡ 0
+    unfolding writeSays
+    passed = all-passed rest (checks-rest first rest done)
+
+    pub write-small : large ≡ false
+    write-small = not-given 7 large (passed 0)
+
+    pub write-space : writeSize z ≤ space
+    write-space = ltb-false space (writeSize z) (not-given 10 (ltb space (writeSize z)) (passed 1))
 
 -- the bytes of a set, and how many they are
 module _ (z : Set) (store : List ℕ) (held : heldSays z (length store) ≡ 0) where
-  pub sprite-set : z .mode ≡ pce-sprite → (each (z .stored) (spriteBytes z store) ≡ setBytes z store) × (writeSize z ≡ length (setBytes z store))
+  abbrev Bytes : List ℕ → Type 0
+  Bytes l = (l ≡ setBytes z store) × (writeSize z ≡ length (setBytes z store))
+
+  pub sprite-set : z .mode ≡ pce-sprite → Bytes (each (z .stored) (spriteBytes z store))
   unfolding setBytes writeSize
   sprite-set is =
-      rw (eq-eqb (z .mode) pce-sprite is) (refl, sym (length-each (z .stored) (area z * z .depth / 8) (spriteBytes z store) (sprite-length z (length store) held is store)))
+      let long = length-each (z .stored) (area z * z .depth / 8) (spriteBytes z store) (sprite-length z (length store) held is store) in
+      rw (eq-eqb (z .mode) pce-sprite is) (refl, sym long)
 
-  pub cell-set : (z .mode ≡ pce-sprite → ⊥) → (each (cellsOf z) (cellBytes z store) ≡ setBytes z store) × (writeSize z ≡ length (setBytes z store))
+  pub cell-set : (z .mode ≡ pce-sprite → ⊥) → Bytes (each (cellsOf z) (cellBytes z store))
   unfolding setBytes writeSize
   cell-set other =
-      rw (ne-eqb (z .mode) pce-sprite other) (refl, sym (length-each (cellsOf z) (z .depth * 8) (cellBytes z store) (cell-length z (length store) held other store)))
+      let long = length-each (cellsOf z) (z .depth * 8) (cellBytes z store) (cell-length z (length store) held other store) in
+      rw (ne-eqb (z .mode) pce-sprite other) (refl, sym long)
+
+  size-case : (b : Bool) → eqb (z .mode) pce-sprite ≡ b → writeSize z ≡ length (setBytes z store)
+  size-case true e = sprite-set (eqb-true (z .mode) pce-sprite e) .1
+  size-case false e = cell-set (eqb-false (z .mode) pce-sprite e) .1
+
+  -- "output buffer shorter than the bytes to be written": 11 is by their number
+  pub written-size : length (setBytes z store) ≡ writeSize z
+  written-size = sym (size-case (eqb (z .mode) pce-sprite) refl)
 
   pub cells-space : (z .mode ≡ pce-sprite → ⊥) → writeSize z ≡ cellsOf z * (z .depth * 8)
   unfolding writeSize

@@ -7,3 +7,4 @@ pub mod Numbers
 pub mod Writing
 pub mod Reading
 pub mod History
+pub mod Inner

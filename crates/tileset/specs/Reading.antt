@@ -1,25 +1,32 @@
 -- "Reading takes whole cells (else 7), stops at the first incomplete tile and does not discard."
 -- Assumes nothing.
-use mathlib.Core.Path.{_≡_}
 use mathlib.Core.Bool.{Bool, true, not, cond, _&&_}
-use mathlib.Core.List.{List, [], _∷_}
-use Prim.Native.Nat.{ℕ, _+_, _-_, _*_, _/_, _%_, _≤_}
+use mathlib.Core.List.{List, [], _∷_, _++_}
+use Prim.Native.Nat.{ℕ, zero, suc, _+_, _-_, _*_, _/_, _%_}
 use lib.Dec.{ltb, eqb}
 use lib.ListN.{length, getD, take, drop}
 use Rattle.words.specs.Answers.{_when_, firstApplying, overwrite}
 use Rattle.words.specs.Loops.{each}
 use Rattle.mode.specs.Table.{hasDepth, pce-sprite}
 use Rattle.tile.specs.Tile.{unpacked}
-use Rattle.tileset.specs.Sets.{isSize, setSays, noSet}
+use Rattle.tileset.specs.Sets.{isSize, noSet}
 use Rattle.tileset.specs.Adding.{Adds}
 use Rattle.tileset.specs.Numbers.{rowCells, startsAt, firstCell}
 use Rattle.tileset.specs.declared.Set.{Set}
 use Rattle.tileset.specs.declared.SetAnswer.{SetAnswer}
 
--- With r, h, v for R, H, V: how many tiles come before the first incomplete one of c cells. They are those of whole rows of tiles, and in the row
--- of tiles after them as many as its last row of cells has.
+-- With r, h, v for R, H, V: the last cell of tile n, in its last row and column.
+abbrev pub lastCell : ℕ → ℕ → ℕ → ℕ → ℕ
+lastCell r h v n = startsAt r h v n + (v - 1) * r + (h - 1)
+
+-- How many of k tiles, from tile n on, come before the first whose last cell is not one of c cells.
+abbrev pub wholeFrom : ℕ → ℕ → ℕ → ℕ → ℕ → ℕ → ℕ
+wholeFrom r h v c n zero = 0
+wholeFrom r h v c n (suc k) = cond (ltb (lastCell r h v n) c) (suc (wholeFrom r h v c (suc n) k)) 0
+
+-- How many tiles come before the first incomplete one of c cells. They are at most c, since each has a cell of its own.
 unfoldable pub wholeTiles : ℕ → ℕ → ℕ → ℕ → ℕ
-wholeTiles r h v c = c / (v * r) * (r / h) + (c % (v * r) - (v - 1) * r) / h
+wholeTiles r h v c = wholeFrom r h v c 0 c
 
 abbrev pub readCount : ℕ → ℕ → ℕ → ℕ → ℕ → ℕ
 readCount m d w h len = wholeTiles (rowCells m) (w / 8) (h / 8) (len / (d * 8))
@@ -34,8 +41,8 @@ readableSays m d w h = firstApplying (readableChecks m d w h)
 -- "Whole cells (else 7)." "A store too short for them is 11; more than 65,535 tiles: 12." Of so many bytes, into a store of so many pixels.
 abbrev pub readChecks : ℕ → ℕ → ℕ → ℕ → ℕ → ℕ → List ℕ
 readChecks m d w h len space =
-    readableSays m d w h
-    ∷ 7 when not (eqb (len % (d * 8)) 0)
+    readableChecks m d w h
+    ++ 7 when not (eqb (len % (d * 8)) 0)
     ∷ 11 when ltb space (readCount m d w h len * (w * h))
     ∷ 12 when ltb 65535 (readCount m d w h len)
     ∷ []
@@ -77,42 +84,3 @@ abbrev pub Reads : ℕ → ℕ → ℕ → ℕ → Bool → List ℕ → List �
 Reads m d w h flips bytes store r after =
     Adds (readSays m d w h (length bytes) (length store)) noSet (readSet m d w h flips (readCount m d w h (length bytes))) store
     (overwrite store (readPixels m d w h bytes)) r after
-
--- What reading the tiles asks, the cells of one tile up to its last, its rows, and one row.
-pub record ReadsAll (m d w h : ℕ) (bytes store : List ℕ) (count : ℕ) : Type 0 where
-  pub sound : setSays m d w h ≡ 0
-  pub cells : m ≡ pce-sprite → ⊥
-  pub few : count ≤ 65535
-  pub is : count ≡ readCount m d w h (length bytes)
-  pub space : count * (w * h) ≤ length store
-
-abbrev pub lastCell : ℕ → ℕ → ℕ → ℕ → ℕ
-lastCell r h v n = startsAt r h v n + (v - 1) * r + (h - 1)
-
-pub record ReadsCells (m d w h : ℕ) (bytes : List ℕ) (n : ℕ) (out : List ℕ) : Type 0 where
-  pub sound : setSays m d w h ≡ 0
-  pub cells : m ≡ pce-sprite → ⊥
-  pub few : n ≤ 65535
-  pub inside : (lastCell (rowCells m) (w / 8) (h / 8) n + 1) * (d * 8) ≤ length bytes
-  pub long : length out ≡ 4096
-
-pub record ReadsRows (w h : ℕ) (cells out : List ℕ) (at : ℕ) : Type 0 where
-  pub across : w ≡ w / 8 * 8
-  pub down : h ≡ h / 8 * 8
-  pub inside : w * h ≤ length cells
-  pub space : at + w * h ≤ length out
-
-pub record ReadsRow (w y : ℕ) (cells out : List ℕ) (at : ℕ) : Type 0 where
-  pub across : w ≡ w / 8 * 8
-  pub inside : (y / 8 * 8 + 8) * w ≤ length cells
-  pub space : at + w ≤ length out
-
--- The pixels of a tile's cells, cell after cell, row by row of cells; and where pixel (y, x) of the tile is among them.
-abbrev pub cellsIn : ℕ → ℕ → ℕ → ℕ → List ℕ → ℕ → List ℕ
-cellsIn m d w h bytes n = each (w / 8 * (h / 8)) (λ k. cellIn m d bytes (firstCell m w h n + k / (w / 8) * rowCells m + k % (w / 8)))
-
-abbrev pub placeIn : ℕ → ℕ → ℕ → ℕ
-placeIn w y x = (y / 8 * (w / 8) + x / 8) * 64 + y % 8 * 8 + x % 8
-
-abbrev pub rowOf : ℕ → List ℕ → ℕ → List ℕ
-rowOf w cells y = each w (λ x. getD cells (placeIn w y x) 0 ∷ [])

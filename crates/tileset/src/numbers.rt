@@ -5,25 +5,28 @@ use crate::Native;
 use crate::NativeAnswer;
 use crate::sets::is_height;
 use crate::sets::is_width;
+use mode::Mode;
+use words::refusal;
 ghost use mathlib.Core.Path.{_≡_};
 ghost use Prim.Native.Nat.{_/_, _≤_};
-ghost use Rattle.tileset.specs.Numbers.{rowCells, firstCell, tileOf, gridSays, nativeAnswer, nativeSays, logicalAnswer, logicalSays, Grid};
+ghost use Rattle.tileset.specs.Numbers.{rowCells, firstCell, tileOf, gridSays, nativeAnswer, nativeSays, logicalAnswer, logicalSays};
+ghost use Rattle.tileset.specs.Inner.{Grid};
 
 // Whether a mode numbers the cells of such tiles.
 fn grid_says(mode: u32, width: u32, height: u32) -> u32
     ensures { λ r. ⌜ r ≡ gridSays mode width height ⌝ }
 {
     if 15 < mode {
-        return 1;
+        return refusal::MODE;
     }
-    if mode == 10 {
-        return 2;
+    if mode == Mode::PCE_SPRITE.0 {
+        return refusal::PCE_SPRITE;
     }
     if !is_width(mode, width) {
-        return 4;
+        return refusal::SIZE;
     }
     if !is_height(mode, height) {
-        return 4;
+        return refusal::SIZE;
     }
     0
 }
@@ -31,7 +34,7 @@ fn grid_says(mode: u32, width: u32, height: u32) -> u32
 pub fn row_cells(mode: u32) -> u32
     ensures { λ r. ⌜ r ≡ rowCells mode ⌝ }
 {
-    if mode == 0 { 16 } else { 1 }
+    if mode == Mode::SNES.0 { 16 } else { 1 }
 }
 
 // Where a tile starts.
@@ -71,7 +74,7 @@ pub fn native_number(mode: u32, width: u32, height: u32, tile: Logical) -> Nativ
     }
     if 65535 < tile.0 {
         return NativeAnswer {
-            refusal: 4,
+            refusal: refusal::SIZE,
             number: Native(0),
         };
     }
@@ -95,7 +98,7 @@ pub fn logical_number(mode: u32, width: u32, height: u32, cell: Native) -> Logic
     let tile = tile_of(mode, width, height, cell);
     if 65535 < tile.0 {
         return LogicalAnswer {
-            refusal: 4,
+            refusal: refusal::SIZE,
             number: Logical(0),
         };
     }

@@ -1,25 +1,28 @@
 // Reading a set's tiles from bytes.
 use crate::Logical;
+use crate::Native;
 use crate::Set;
 use crate::SetAnswer;
 use crate::numbers::first_cell;
 use crate::numbers::row_cells;
 use crate::sets::set_says;
 use mode::Mode;
+use words::refusal;
 ghost use mathlib.Core.Path.{_≡_};
 ghost use lib.Seq.{sets};
 ghost use Rattle.words.specs.Answers.{overwrite};
 ghost use Rattle.words.specs.Loops.{each};
+ghost use Rattle.mode.specs.Table.{pce-sprite};
 ghost use Rattle.tileset.specs.Sets.{setSays};
-ghost use Rattle.tileset.specs.Numbers.{Grid};
-ghost use Rattle.tileset.specs.Reading.{wholeTiles, readCount, readableSays, readSays, readPixels, cellsIn, rowOf, Reads, ReadsAll, ReadsCells, ReadsRows, ReadsRow};
+ghost use Rattle.tileset.specs.Reading.{wholeTiles, readCount, readableSays, readSays, readPixels, Reads};
+ghost use Rattle.tileset.specs.Inner.{Grid, ReadsAll, ReadsCells, ReadsRows, ReadsRow, cellsIn, rowOf};
 
 // Whether a mode's sets of such tiles can be read.
 fn readable_says(mode: u32, depth: u32, width: u32, height: u32) -> u32
     ensures { λ r. ⌜ r ≡ readableSays mode depth width height ⌝ }
 {
-    if mode == 10 {
-        return 2;
+    if mode == Mode::PCE_SPRITE.0 {
+        return refusal::PCE_SPRITE;
     }
     set_says(mode, depth, width, height)
 }
@@ -41,7 +44,7 @@ fn whole_tiles(row: usize, across: usize, down: usize, cells: usize) -> usize
 
 // How many tiles so many bytes hold.
 fn read_count(mode: u32, depth: u32, width: u32, height: u32, len: usize) -> usize
-    requires { ⌜ (setSays mode depth width height ≡ 0) × (mode ≡ 10 → ⊥) ⌝ }
+    requires { ⌜ (setSays mode depth width height ≡ 0) × (mode ≡ pce-sprite → ⊥) ⌝ }
     ensures { λ r. ⌜ r ≡ readCount mode depth width height len ⌝ }
 {
     let row = row_cells(mode) as usize;
@@ -60,15 +63,15 @@ fn read_says(mode: u32, depth: u32, width: u32, height: u32, len: usize, space: 
     }
     let size = (depth * 8) as usize;
     if len % size != 0 {
-        return 7;
+        return refusal::LENGTH;
     }
     let count = read_count(mode, depth, width, height, len);
     let n = (width * height) as usize;
     if space / n < count {
-        return 11;
+        return refusal::OUTPUT;
     }
     if 65535 < count {
-        return 12;
+        return refusal::ROOM;
     }
     0
 }
@@ -80,22 +83,22 @@ fn unpack_cells(
     width: u32,
     height: u32,
     bytes: &[u8],
-    n: u32,
+    n: Logical,
     out: &mut [u8],
 )
-    requires { ⌜ ReadsCells mode depth width height (now bytes) n (now out) ⌝ }
-    ensures { λ _. ⌜ now (out .exit) ≡ overwrite (now (out .entry)) (cellsIn mode depth width height (now (bytes .entry)) n) ⌝ }
+    requires { ⌜ ReadsCells mode depth width height (now bytes) (n .0) (now out) ⌝ }
+    ensures { λ _. ⌜ now (out .exit) ≡ overwrite (now (out .entry)) (cellsIn mode depth width height (now (bytes .entry)) (n .0)) ⌝ }
 {
     let p = tile::packing_of(Mode(mode), depth, 8, 8);
     let size = (depth * 8) as usize;
     let row = row_cells(mode);
-    let first = first_cell(mode, width, height, Logical(n));
+    let first = first_cell(mode, width, height, n);
     let across = width / 8;
     let count = across * (height / 8);
     let mut i: u32 = 0;
     while i < count {
-        let cell = (first.0 + i / across * row + i % across) as usize;
-        tile::put_pixels(p, bytes, cell * size, out, (i as usize) * 64);
+        let cell = Native(first.0 + i / across * row + i % across);
+        tile::put_pixels(p, bytes, (cell.0 as usize) * size, out, (i as usize) * 64);
         i += 1;
     }
 }
@@ -144,7 +147,7 @@ fn put_read(
     let h = height as usize;
     let mut n: u32 = 0;
     while n < count {
-        unpack_cells(mode, depth, width, height, bytes, n, &mut cells);
+        unpack_cells(mode, depth, width, height, bytes, Logical(n), &mut cells);
         put_rows(&cells, w, h, store, (n as usize) * (w * h));
         n += 1;
     }

@@ -7,16 +7,19 @@ use crate::numbers::tile_of;
 use crate::sets::held_says;
 use mode::Mode;
 use words::Written;
+use words::refusal;
 ghost use mathlib.Core.Path.{_≡_};
 ghost use Prim.Native.Nat.{_/_, _≤_};
 ghost use lib.ListN.{length};
 ghost use lib.Seq.{sets};
 ghost use Rattle.words.specs.Answers.{overwrite, Wrote};
 ghost use Rattle.words.specs.Loops.{each, some};
+ghost use Rattle.mode.specs.Table.{pce-sprite};
 ghost use Rattle.tile.specs.Tile.{tooLarge};
 ghost use Rattle.tileset.specs.Sets.{setSays};
-ghost use Rattle.tileset.specs.Numbers.{rowCells, Grid};
-ghost use Rattle.tileset.specs.Writing.{paddedCells, cellCount, cornerOf, block, cellBytes, cellsOf, spriteBytes, setBytes, writeSize, writeSays, Writes, PutsCell, HasCorner, HasBlock};
+ghost use Rattle.tileset.specs.Numbers.{rowCells};
+ghost use Rattle.tileset.specs.Writing.{paddedCells, cellCount, cornerOf, block, cellBytes, cellsOf, spriteBytes, setBytes, writeSize, writeSays};
+ghost use Rattle.tileset.specs.Inner.{Grid, Writes, PutsCell, HasCorner, HasBlock};
 
 // Whole rows of cells for so many tiles.
 fn padded_cells(mode: u32, width: u32, height: u32, stored: u32) -> u32
@@ -43,15 +46,15 @@ fn cell_count(mode: u32, width: u32, height: u32, stored: u32) -> u32
 }
 
 // Where the pixels of a cell of a tile start.
-fn corner(set: Set, c: u32, tile: Logical) -> usize
-    requires { ⌜ HasCorner set c (tile .0) ⌝ }
-    ensures { λ r. ⌜ r ≡ cornerOf (set .mode) (set .width) (set .height) c ⌝ }
+fn corner(set: Set, c: Native, tile: Logical) -> usize
+    requires { ⌜ HasCorner set (c .0) (tile .0) ⌝ }
+    ensures { λ r. ⌜ r ≡ cornerOf (set .mode) (set .width) (set .height) (c .0) ⌝ }
 {
     let row = row_cells(set.mode);
     let width = set.width;
     let height = set.height;
-    let down = c / row % (height / 8) * 8 * width;
-    let across = c % row % (width / 8) * 8;
+    let down = c.0 / row % (height / 8) * 8 * width;
+    let across = c.0 % row % (width / 8) * 8;
     (tile.0 * (width * height) + down + across) as usize
 }
 
@@ -68,13 +71,13 @@ fn take_block(store: &[u8], corner: usize, width: usize, out: &mut [u8])
 }
 
 // The bytes of a cell, from place at of out on; a cell after the last tile is blank.
-fn put_cell(set: Set, store: &[u8], c: u32, out: &mut [u8], at: usize)
+fn put_cell(set: Set, store: &[u8], c: Native, out: &mut [u8], at: usize)
     requires { ⌜ PutsCell set (now store) (now out) at ⌝ }
-    ensures { λ _. ⌜ now (out .exit) ≡ sets (now (out .entry)) at (cellBytes set (now (store .entry)) c) ⌝ }
+    ensures { λ _. ⌜ now (out .exit) ≡ sets (now (out .entry)) at (cellBytes set (now (store .entry)) (c .0)) ⌝ }
 {
     let p = tile::packing_of(Mode(set.mode), set.depth, 8, 8);
     let mut cell = [0u8; 64];
-    let tile = tile_of(set.mode, set.width, set.height, Native(c));
+    let tile = tile_of(set.mode, set.width, set.height, c);
     if set.stored <= tile.0 {
         tile::put_tile(p, &cell, 0, out, at);
         return;
@@ -85,21 +88,21 @@ fn put_cell(set: Set, store: &[u8], c: u32, out: &mut [u8], at: usize)
 
 // The cells of a set, one after the other.
 fn put_cells(set: Set, store: &[u8], out: &mut [u8])
-    requires { ⌜ Writes set (now store) (now out) × (set .mode ≡ 10 → ⊥) ⌝ }
+    requires { ⌜ Writes set (now store) (now out) × (set .mode ≡ pce-sprite → ⊥) ⌝ }
     ensures { λ _. ⌜ now (out .exit) ≡ overwrite (now (out .entry)) (each (cellsOf set) (cellBytes set (now (store .entry)))) ⌝ }
 {
     let count = cell_count(set.mode, set.width, set.height, set.stored);
     let size = (set.depth * 8) as usize;
     let mut c: u32 = 0;
     while c < count {
-        put_cell(set, store, c, out, (c as usize) * size);
+        put_cell(set, store, Native(c), out, (c as usize) * size);
         c += 1;
     }
 }
 
 // Sprites, tile by tile.
 fn put_sprites(set: Set, store: &[u8], out: &mut [u8])
-    requires { ⌜ Writes set (now store) (now out) × (set .mode ≡ 10) ⌝ }
+    requires { ⌜ Writes set (now store) (now out) × (set .mode ≡ pce-sprite) ⌝ }
     ensures { λ _. ⌜ now (out .exit) ≡ overwrite (now (out .entry)) (each (set .stored) (spriteBytes set (now (store .entry)))) ⌝ }
 {
     let p = tile::packing_of(Mode(set.mode), set.depth, set.width, set.height);
@@ -134,7 +137,7 @@ fn write_size(set: Set) -> usize
     requires { ⌜ (setSays (set .mode) (set .depth) (set .width) (set .height) ≡ 0) × (set .stored ≤ 65535) ⌝ }
     ensures { λ r. ⌜ r ≡ writeSize set ⌝ }
 {
-    if set.mode == 10 {
+    if set.mode == Mode::PCE_SPRITE.0 {
         let size = set.width * set.height * set.depth / 8;
         return (set.stored * size) as usize;
     }
@@ -151,10 +154,10 @@ fn write_says(set: Set, store: &[u8], space: usize) -> u32
     }
     let count = (set.stored * (set.width * set.height)) as usize;
     if some_too_large(set.depth, store, count) {
-        return 8;
+        return refusal::PIXEL;
     }
     if space < write_size(set) {
-        return 11;
+        return refusal::OUTPUT;
     }
     0
 }
@@ -168,7 +171,7 @@ pub fn write(set: Set, store: &[u8], out: &mut [u8]) -> Written
         return words::refused(refusal);
     }
     let size = write_size(set);
-    if set.mode == 10 {
+    if set.mode == Mode::PCE_SPRITE.0 {
         put_sprites(set, store, out);
         return Written {
             refusal: 0,

@@ -7,40 +7,69 @@ use lib.ListN.{length}
 use lib.Seq.{sets}
 use denote.Ref.{now}
 use borrow.Author.Needs.{needs}
+use Rattle.words.specs.Answers.{overwrite}
+use Rattle.words.proofs.Filling.{Filled, filled-none, filled-front}
+use Rattle.tile.proofs.Native.{Native}
 use Rattle.tileset.specs.Reading.{tileIn, readCount, readPixels}
+use Rattle.tileset.specs.Inner.{cellsIn}
 use Rattle.tileset.proofs.Sizes.{IsSet, set-of}
-use Rattle.tileset.proofs.WritingLaws.{Filling, fill-none, fill-more, fill-all, item-space, native-cell}
+use Rattle.tileset.proofs.WritingLaws.{item-space, native-cell, front-more}
 use Rattle.tileset.proofs.ReadingLaws.{tile-inside, tile-length, cells-long, rows-are}
 use Rattle.tileset.proofs.reading.put_read.Statement.{statement}
 use Rattle.tileset.proofs.reading.put_read.Tie as tie
 
 abbrev Inv-loop : tie.InvT-loop
-Inv-loop mode depth width height bytes count store₀ cells₀ w h n₀ store cells n = (n ≤ count) × ((length cells ≡ 4096) × Filling (tileIn mode depth width height bytes) (width * height) store₀ n store)
+Inv-loop mode depth width height bytes count store₀ cells₀ w h n₀ store cells n = (n ≤ count) × ((length cells ≡ 4096) × Filled (tileIn mode depth width height bytes) store₀ 0 n store)
 
 abbrev μ-loop : tie.MeasureT-loop
 μ-loop mode depth width height bytes count store₀ cells₀ w h n₀ store cells n = count - n
 
-sound : (c : tie.Start Inv-loop μ-loop) → IsSet (c .args .mode) (c .args .depth) (c .args .width) (c .args .height)
-sound c = set-of _ _ _ _ (c .pre .sound)
+module _ (c : tie.Start Inv-loop μ-loop) where
+  abbrev bytes : List ℕ
+  bytes = now (c .args .bytes)
 
-here : (c : tie.In-loop Inv-loop μ-loop) → let a = c .before .before .before .before .args in c .before .loop .n * (a .width * a .height) + a .width * a .height ≤ length (now (a .store))
-here c = item-space (c .before .before .before .before .args .count) _ _ (c .before .loop .n) (c .before .before .before .before .pre .space) (c .loop-test .taken)
+  sound : IsSet (c .args .mode) (c .args .depth) (c .args .width) (c .args .height)
+  sound = set-of _ _ _ _ (c .pre .sound)
+
+  cell-native : Native (c .args .mode) (c .args .depth) 8 8
+  cell-native = native-cell sound (c .pre .cells)
+
+module _ (c : tie.In-loop Inv-loop μ-loop) where
+  abbrev s : tie.Start Inv-loop μ-loop
+  s = c .before .before .before .before
+
+  abbrev n : ℕ
+  n = c .before .loop .n
+
+  abbrev cellsOf : List ℕ
+  cellsOf = cellsIn (s .args .mode) (s .args .depth) (s .args .width) (s .args .height) (bytes s) n
+
+  here : n * (s .args .width * s .args .height) + s .args .width * s .args .height ≤ length (now (s .args .store))
+  here = item-space (s .args .count) _ _ n (s .pre .space) (c .loop-test .taken)
+
+-- the buffer with the cells of tile n
+module _ (c : tie.After-unpack-cells Inv-loop μ-loop) where
+  abbrev l : tie.In-loop Inv-loop μ-loop
+  l = c .before .before
+
+  long : (cells : List ℕ) → cells ≡ overwrite (l .before .loop .cells) (cellsOf l) → length cells ≡ 4096
+  long cells e = cells-long (sound (s l)) (cell-native (s l)) (bytes (s l)) [] (n l) _ cells e (l .before .loop .inv .1 .0)
 
 loop-holds : tie.Need-loop-holds Inv-loop μ-loop
-loop-holds c = (search needs, (refl, fill-none _ _ _))
+loop-holds c = (search needs, (refl, filled-none _ _ _))
 
 slice-aggregate-unpack-cells : tie.Need-slice-aggregate-unpack-cells Inv-loop μ-loop
 slice-aggregate-unpack-cells c = search needs
 
 unpack-cells-requires : tie.Need-unpack-cells-requires Inv-loop μ-loop
 unpack-cells-requires c κs =
-    let s = c .before .before .before .before .before in
+    let i = c .before in
     record {
-      sound = s .pre .sound;
-      cells = s .pre .cells;
-      few = omega (arith, s .pre .few, c .before .loop-test .taken);
-      inside = tile-inside (sound s) (s .pre .cells) (length (now (s .args .bytes))) (c .before .before .loop .n) (omega (arith, s .pre .is, c .before .loop-test .taken));
-      long = c .before .before .loop .inv .1 .0;
+      sound = s i .pre .sound;
+      cells = s i .pre .cells;
+      few = omega (arith, s i .pre .few, i .loop-test .taken);
+      inside = tile-inside (sound (s i)) (length (bytes (s i))) (n i) (omega (arith, s i .pre .is, i .loop-test .taken));
+      long = i .before .loop .inv .1 .0;
     }
 
 slice-aggregate-put-rows : tie.Need-slice-aggregate-put-rows Inv-loop μ-loop
@@ -50,19 +79,20 @@ cast-put-rows : tie.Need-cast-put-rows Inv-loop μ-loop
 cast-put-rows c = search needs
 
 mul-put-rows : tie.Need-mul-put-rows Inv-loop μ-loop
-mul-put-rows c = omega (arith, sound (c .before .before .before .before .before .before .before .before .before) .small)
+mul-put-rows c = omega (arith, sound (s (l (c .before .before .before))) .small)
 
 mul-put-rows-2 : tie.Need-mul-put-rows-2 Inv-loop μ-loop
-mul-put-rows-2 c = omega (arith, here (c .before .before .before .before .before))
+mul-put-rows-2 c = omega (arith, here (l (c .before .before .before)))
 
 put-rows-requires : tie.Need-put-rows-requires Inv-loop μ-loop
 put-rows-requires c κs =
-    let s = c .before .before .before .before .before .before .before .before .before in
+    let u = c .before .before .before in
+    let z = sound (s (l u)) in
     record {
-      across = sound s .across;
-      down = sound s .down;
-      inside = omega (arith, cells-long (sound s) (native-cell (sound s) (s .pre .cells)) (now (s .args .bytes)) [] (c .before .before .before .before .before .before .loop .n) _ _ (c .before .before .before .unpack-cells .ensures) (c .before .before .before .before .before .before .loop .inv .1 .0), sound s .small);
-      space = omega (arith, here (c .before .before .before .before .before), c .before .before .before .before .before .before .loop .inv .1 .1 .long);
+      across = z .across;
+      down = z .down;
+      inside = omega (arith, long u _ (u .unpack-cells .ensures), z .small);
+      space = omega (arith, here (l u), l u .before .loop .inv .1 .1 .long);
     }
 
 add-n : tie.Need-add-n Inv-loop μ-loop
@@ -73,16 +103,16 @@ loop-less c = search needs
 
 loop-again : tie.Need-loop-again Inv-loop μ-loop
 loop-again c =
-    let s = c .before .before .before .before .before .before .before .before .before .before .before .before in
-    let a = s .args in
-    let l = c .before .before .before .before .before .before .before .before .before .loop in (
+    let u = c .before .before .before .before .before .before in
+    let i = l u in
+    let area = s i .args .width * s i .args .height in (
       search needs,
       (
-        cells-long (sound s) (native-cell (sound s) (s .pre .cells)) (now (a .bytes)) [] (l .n) _ _ (c .before .before .before .before .before .before .unpack-cells .ensures) (l .inv .1 .0),
-        fill-more (tile-length _ _ _ _ (now (a .bytes))) (l .inv .1 .1) (here (c .before .before .before .before .before .before .before .before))
+        long u _ (u .unpack-cells .ensures),
+        front-more area (tile-length _ _ _ _ (bytes (s i))) (i .before .loop .inv .1 .1)
             (c .before .before .put-rows .ensures
-            ∙ ap (λ (x : List ℕ). sets (l .store) (l .n * (a .width * a .height)) x)
-            (rows-are (sound s) (native-cell (sound s) (s .pre .cells)) (now (a .bytes)) _ (l .n) _ (c .before .before .before .before .before .before .unpack-cells .ensures))),
+            ∙ ap (λ (x : List ℕ). sets (i .before .loop .store) (n i * area) x)
+            (rows-are (sound (s i)) (cell-native (s i)) (bytes (s i)) _ (n i) _ (u .unpack-cells .ensures))),
       ),
     )
 
@@ -93,8 +123,9 @@ returns : tie.Need-returns Inv-loop μ-loop
 unfolding readPixels
 returns c =
     let s = c .before .before .before .before in
-    let all : c .before .loop .n ≡ readCount (s .args .mode) (s .args .depth) (s .args .width) (s .args .height) (length (now (s .args .bytes))) = omega (arith, s .pre .is) in
-    fill-all (tile-length _ _ _ _ (now (s .args .bytes))) (c .before .loop .inv .1 .1) all
+    let a = s .args in
+    let count = readCount (a .mode) (a .depth) (a .width) (a .height) (length (bytes s)) in
+    filled-front (a .width * a .height) count (tile-length _ _ _ _ (bytes s)) (c .before .loop .inv .1 .1) (omega (arith, s .pre .is)) (rw (← s .pre .is) (s .pre .space))
 
 pub put-read-spec : {M : Type 1} → statement M
 put-read-spec =

@@ -7,13 +7,14 @@ use native.Mathlib.Omega.{arith}
 use lib.ListN.{length, getD}
 use denote.Ref.{now}
 use borrow.Author.Needs.{needs}
-use Rattle.tileset.specs.Reading.{placeIn}
-use Rattle.tileset.proofs.ReadingLaws.{FillingAt, fill-at-none, fill-at-one, fill-at-all, place-inside}
+use Rattle.words.proofs.Filling.{Filled, filled-none, filled-one, filled-all}
+use Rattle.tileset.specs.Inner.{placeIn}
+use Rattle.tileset.proofs.ReadingLaws.{place-inside}
 use Rattle.tileset.proofs.reading.put_row.Statement.{statement}
 use Rattle.tileset.proofs.reading.put_row.Tie as tie
 
 abbrev Inv-loop : tie.InvT-loop
-Inv-loop cells width y out₀ at above down x₀ out x = (x ≤ width) × FillingAt (λ k. getD cells (placeIn width y k) 0 ∷ []) 1 out₀ at x out
+Inv-loop cells width y out₀ at above down x₀ out x = (x ≤ width) × Filled (λ k. getD cells (placeIn width y k) 0 ∷ []) out₀ at x out
 
 abbrev μ-loop : tie.MeasureT-loop
 μ-loop cells width y out₀ at above down x₀ out x = width - x
@@ -36,7 +37,7 @@ mul-down : tie.Need-mul-down Inv-loop μ-loop
 mul-down c = search needs
 
 loop-holds : tie.Need-loop-holds Inv-loop μ-loop
-loop-holds c = (search needs, fill-at-none _ _ _ _)
+loop-holds c = (search needs, filled-none _ _ _)
 
 add-out : tie.Need-add-out Inv-loop μ-loop
 add-out c = omega (arith, near c)
@@ -66,15 +67,13 @@ loop-less : tie.Need-loop-less Inv-loop μ-loop
 loop-less c = search needs
 
 loop-again : tie.Need-loop-again Inv-loop μ-loop
-loop-again c = (search needs, fill-at-one (c .before .before .loop .inv .1) (omega (arith, c .before .before .before .pre .space, c .before .loop-test .taken)) refl)
+loop-again c = (search needs, filled-one (c .before .before .loop .inv .1) refl)
 
 same-length : tie.Need-same-length Inv-loop μ-loop
-same-length c = search needs
+same-length c = c .before .loop .inv .1 .long
 
 returns : tie.Need-returns Inv-loop μ-loop
-returns c =
-    let a = c .before .before .args in
-    fill-at-all {n = a .width} (λ j. refl) (c .before .loop .inv .1) (omega (arith, c .before .before .pre .space)) (omega arith)
+returns c = filled-all (c .before .before .args .width) (c .before .loop .inv .1) (omega arith)
 
 pub put-row-spec : {M : Type 1} → statement M
 put-row-spec =

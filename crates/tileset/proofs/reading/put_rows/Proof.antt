@@ -6,13 +6,14 @@ use lib.ListN.{length}
 use denote.Ref.{now}
 use borrow.Author.Needs.{needs}
 use Rattle.words.proofs.Items.{item-inside}
-use Rattle.tileset.specs.Reading.{rowOf}
-use Rattle.tileset.proofs.ReadingLaws.{FillingAt, fill-at-none, fill-at-more, fill-at-all, rows-inside, row-length}
+use Rattle.words.proofs.Filling.{Filled, filled-none, filled-more, filled-all}
+use Rattle.tileset.specs.Inner.{rowOf}
+use Rattle.tileset.proofs.ReadingLaws.{rows-inside, row-length}
 use Rattle.tileset.proofs.reading.put_rows.Statement.{statement}
 use Rattle.tileset.proofs.reading.put_rows.Tie as tie
 
 abbrev Inv-loop : tie.InvT-loop
-Inv-loop cells width height out₀ at y₀ out y = (y ≤ height) × FillingAt (rowOf width cells) width out₀ at y out
+Inv-loop cells width height out₀ at y₀ out y = (y ≤ height) × Filled (rowOf width cells) out₀ at y out
 
 abbrev μ-loop : tie.MeasureT-loop
 μ-loop cells width height out₀ at y₀ out y = height - y
@@ -23,7 +24,7 @@ here c =
     omega (arith, item-inside (a .width) (a .height) (c .before .loop .y) (c .loop-test .taken), mul-comm (a .width) (a .height), c .before .before .before .before .pre .space)
 
 loop-holds : tie.Need-loop-holds Inv-loop μ-loop
-loop-holds c = (search needs, fill-at-none _ _ _ _)
+loop-holds c = (search needs, filled-none _ _ _)
 
 mul-put-row : tie.Need-mul-put-row Inv-loop μ-loop
 mul-put-row c = omega (arith, here (c .before))
@@ -47,15 +48,16 @@ loop-less : tie.Need-loop-less Inv-loop μ-loop
 loop-less c = search needs
 
 loop-again : tie.Need-loop-again Inv-loop μ-loop
-loop-again c = (search needs, fill-at-more (row-length (c .before .before .before .before .before .before .before .before .args .width) (now (c .before .before .before .before .before .before .before .before .args .cells))) (c .before .before .before .before .before .loop .inv .1) (here (c .before .before .before .before)) (c .before .before .put-row .ensures))
+loop-again c =
+    let l = c .before .before .before .before .before in
+    let a = l .before .before .before .args in
+    (search needs, filled-more (a .width) (row-length (a .width) (now (a .cells))) (l .loop .inv .1) (c .before .before .put-row .ensures))
 
 same-length : tie.Need-same-length Inv-loop μ-loop
 same-length c = search needs
 
 returns : tie.Need-returns Inv-loop μ-loop
-returns c =
-    let s = c .before .before .before .before in
-    fill-at-all {n = s .args .height} (row-length (s .args .width) (now (s .args .cells))) (c .before .loop .inv .1) (omega (arith, s .pre .space, mul-comm (s .args .width) (s .args .height))) (omega arith)
+returns c = filled-all (c .before .before .before .before .args .height) (c .before .loop .inv .1) (omega arith)
 
 pub put-rows-spec : {M : Type 1} → statement M
 put-rows-spec =

@@ -12,14 +12,17 @@ use Rattle.tileset.proofs.reading.read.Statement.{statement}
 use Rattle.tileset.proofs.reading.read.Tie as tie
 
 module _ (c : tie.Else1) where
-  accepted : let a = c .before .before .before .before .args in readSays (a .mode) (a .depth) (a .width) (a .height) (length (now (a .bytes))) (length (now (a .store))) ≡ 0
+  abbrev s : tie.Start
+  s = c .before .before .before .before
+
+  accepted : let a = s .args in readSays (a .mode) (a .depth) (a .width) (a .height) (length (now (a .bytes))) (length (now (a .store))) ≡ 0
   accepted = sym (c .before .read-says .ensures) ∙ c .if1 .left
 
-  readable : let a = c .before .before .before .before .args in readableSays (a .mode) (a .depth) (a .width) (a .height) ≡ 0
-  readable = let a = c .before .before .before .before .args in read-readable (a .mode) (a .depth) (a .width) (a .height) (length (now (a .bytes))) (length (now (a .store))) accepted
+  readable : let a = s .args in readableSays (a .mode) (a .depth) (a .width) (a .height) ≡ 0
+  readable = let a = s .args in read-readable (a .mode) (a .depth) (a .width) (a .height) (length (now (a .bytes))) (length (now (a .store))) accepted
 
-  few : let a = c .before .before .before .before .args in readCount (a .mode) (a .depth) (a .width) (a .height) (length (now (a .bytes))) ≤ 65535
-  few = let a = c .before .before .before .before .args in read-few (a .mode) (a .depth) (a .width) (a .height) (length (now (a .bytes))) (length (now (a .store))) accepted
+  few : let a = s .args in readCount (a .mode) (a .depth) (a .width) (a .height) (length (now (a .bytes))) ≤ 65535
+  few = let a = s .args in read-few (a .mode) (a .depth) (a .width) (a .height) (length (now (a .bytes))) (length (now (a .store))) accepted
 
 read-says-requires : tie.Need-read-says-requires
 read-says-requires c κs = search needs
@@ -27,7 +30,8 @@ read-says-requires c κs = search needs
 returns : tie.Need-returns
 returns c =
     let a = c .before .before .before .before .args in
-    refuse-read (a .mode) (a .depth) (a .width) (a .height) (a .flips) (now (a .bytes)) (now (a .store)) (c .before .read-says .result) (c .before .read-says .ensures) (c .if1 .taken) refl refl
+    let n = c .before .read-says in
+    refuse-read (a .mode) (a .depth) (a .width) (a .height) (a .flips) (now (a .bytes)) (now (a .store)) (n .result) (n .ensures) (c .if1 .taken) refl refl
 
 read-count-requires : tie.Need-read-count-requires
 read-count-requires c κs = (readable-says-set _ _ _ _ (readable c), readable-mode _ _ _ _ (readable c))
@@ -38,13 +42,14 @@ cast-count c = omega (arith, few (c .before), c .read-count .ensures)
 put-read-requires : tie.Need-put-read-requires
 put-read-requires c κs =
     let e = c .before .before in
-    let a = c .before .before .before .before .before .before .args in
+    let a = s e .args in
+    let n = c .before .read-count in
     record {
       sound = readable-says-set _ _ _ _ (readable e);
       cells = readable-mode _ _ _ _ (readable e);
-      few = omega (arith, few e, c .before .read-count .ensures);
-      is = c .before .read-count .ensures;
-      space = rw (c .before .read-count .ensures) (read-space (a .mode) (a .depth) (a .width) (a .height) (length (now (a .bytes))) (length (now (a .store))) (accepted e));
+      few = omega (arith, few e, n .ensures);
+      is = n .ensures;
+      space = rw (n .ensures) (read-space (a .mode) (a .depth) (a .width) (a .height) (length (now (a .bytes))) (length (now (a .store))) (accepted e));
     }
 
 same-length : tie.Need-same-length
@@ -52,9 +57,10 @@ same-length c = search needs
 
 returns-2 : tie.Need-returns-2
 returns-2 c =
-    let a = c .before .before .before .before .before .before .before .before .before .args in
-    done-read (a .mode) (a .depth) (a .width) (a .height) (a .flips) (now (a .bytes)) (now (a .store)) (accepted (c .before .before .before .before .before))
-    (ap (λ (k : ℕ). setAnswer 0 (readSet (a .mode) (a .depth) (a .width) (a .height) (a .flips) k)) (c .before .before .before .before .read-count .ensures)) (c .before .before .put-read .ensures)
+    let n = c .before .before .before .before in
+    let a = s (n .before) .args in
+    let counted = ap (λ (k : ℕ). setAnswer 0 (readSet (a .mode) (a .depth) (a .width) (a .height) (a .flips) k)) (n .read-count .ensures) in
+    done-read (a .mode) (a .depth) (a .width) (a .height) (a .flips) (now (a .bytes)) (now (a .store)) (accepted (n .before)) counted (c .before .before .put-read .ensures)
 
 pub read-spec : {M : Type 1} → statement M
 read-spec =

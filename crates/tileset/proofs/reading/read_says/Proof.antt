@@ -25,8 +25,8 @@ readable-says-requires c κs = search needs
 
 returns : tie.Need-returns
 returns c =
-    let a = c .before .before .args in
-    read-first (a .mode) (a .depth) (a .width) (a .height) (a .len) (a .space) (c .before .readable-says .result) (c .before .readable-says .ensures) (c .if1 .taken)
+    let n = c .before .readable-says in
+    read-first _ _ _ _ _ _ (n .result) (n .ensures) (c .if1 .taken)
 
 mul-size : tie.Need-mul-size
 mul-size c = omega (arith, sound c .deep)
@@ -38,9 +38,7 @@ rem-if2 : tie.Need-rem-if2
 rem-if2 c = omega (arith, bits-some (sound c))
 
 returns-2 : tie.Need-returns-2
-returns-2 c =
-    let a = c .before .before .before .args in
-    read-7 (a .mode) (a .depth) (a .width) (a .height) (a .len) (a .space) (passed (c .before)) (c .if2 .taken)
+returns-2 c = read-7 _ _ _ _ _ _ (passed (c .before)) (c .if2 .taken)
 
 read-count-requires : tie.Need-read-count-requires
 read-count-requires c κs = (readable-says-set _ _ _ _ (passed (c .before)), readable-mode _ _ _ _ (passed (c .before)))
@@ -56,27 +54,29 @@ div-if3 c = some (c .before .before)
 
 returns-3 : tie.Need-returns-3
 returns-3 c =
-    let a = c .before .before .before .before .before .args in
-    read-11 (a .mode) (a .depth) (a .width) (a .height) (a .len) (a .space) (passed (c .before .before .before)) (c .before .before .if2 .left)
-    (div-lt-iff-lt-mul {k = a .width * a .height} (some (c .before .before .before)) .0 (omega (arith, c .before .read-count .ensures, c .if3 .taken)))
+    let n = c .before in
+    let e = n .before .before in
+    read-11 _ _ _ _ _ _ (passed e) (n .before .if2 .left)
+    (div-lt-iff-lt-mul {k = e .before .before .args .width * e .before .before .args .height} (some e) .0 (omega (arith, n .read-count .ensures, c .if3 .taken)))
 
 module _ (c : tie.Else3) where
-  fits : let a = c .before .before .before .before .before .args in readCount (a .mode) (a .depth) (a .width) (a .height) (a .len) * (a .width * a .height) ≤ a .space
+  abbrev e : tie.Else1
+  e = c .before .before .before
+
+  fits : let a = e .before .before .args in readCount (a .mode) (a .depth) (a .width) (a .height) (a .len) * (a .width * a .height) ≤ a .space
   fits =
-      let a = c .before .before .before .before .before .args in
-      le-div-iff-mul-le {k = a .width * a .height} (some (c .before .before .before)) .0 (omega (arith, c .before .read-count .ensures, c .if3 .left))
+      let a = e .before .before .args in
+      le-div-iff-mul-le {k = a .width * a .height} (some e) .0 (omega (arith, c .before .read-count .ensures, c .if3 .left))
 
 returns-4 : tie.Need-returns-4
 returns-4 c =
-    let a = c .before .before .before .before .before .before .args in
-    read-12 (a .mode) (a .depth) (a .width) (a .height) (a .len) (a .space) (passed (c .before .before .before .before)) (c .before .before .before .if2 .left)
-    (fits (c .before)) (omega (arith, c .before .before .read-count .ensures, c .if4 .taken))
+    let n = c .before .before in
+    read-12 _ _ _ _ _ _ (passed (e (c .before))) (n .before .if2 .left) (fits (c .before)) (omega (arith, n .read-count .ensures, c .if4 .taken))
 
 returns-5 : tie.Need-returns-5
 returns-5 c =
-    let a = c .before .before .before .before .before .before .args in
-    read-0 (a .mode) (a .depth) (a .width) (a .height) (a .len) (a .space) (passed (c .before .before .before .before)) (c .before .before .before .if2 .left)
-    (fits (c .before)) (omega (arith, c .before .before .read-count .ensures, c .if4 .left))
+    let n = c .before .before in
+    read-0 _ _ _ _ _ _ (passed (e (c .before))) (n .before .if2 .left) (fits (c .before)) (omega (arith, n .read-count .ensures, c .if4 .left))
 
 pub read-says-spec : {M : Type 1} → statement M
 read-says-spec =

@@ -1,72 +1,95 @@
--- The cells before k are unpacked.
+-- The cells before i are unpacked.
 use mathlib.Core.Path.{_≡_, ap, _∙_}
 use mathlib.Core.List.{List}
 use Prim.Native.Nat.{ℕ, _+_, _-_, _*_, _/_, _%_, _≤_}
 use native.Mathlib.Nat.{mod-le}
 use native.Mathlib.Omega.{arith}
-use lib.ListN.{length, take, drop}
+use lib.ListN.{length}
 use lib.Seq.{sets}
 use denote.Ref.{now}
 use borrow.Author.Needs.{needs}
-use Rattle.tile.specs.Tile.{unpacked}
+use Rattle.words.specs.Answers.{overwrite}
+use Rattle.words.specs.Loops.{each}
+use Rattle.words.proofs.Filling.{Filled, filled-none, filled-front}
 use Rattle.tile.proofs.Native.{Native}
-use Rattle.tileset.specs.Numbers.{rowCells, firstCell, Grid}
+use Rattle.tileset.specs.Numbers.{rowCells, firstCell}
 use Rattle.tileset.specs.Reading.{cellIn}
+use Rattle.tileset.specs.Inner.{Grid}
 use Rattle.tileset.proofs.Sizes.{IsSet, set-of, grid-set}
-use Rattle.tileset.proofs.WritingLaws.{Filling, fill-none, fill-more, fill-all, native-cell}
+use Rattle.tileset.proofs.WritingLaws.{native-cell, front-more}
 use Rattle.tileset.proofs.ReadingLaws.{cell-in-length, unpacks-at, unpacks-cell, cell-inside, cell-row-fits, cells-area, starts-few}
 use Rattle.tileset.proofs.reading.unpack_cells.Statement.{statement}
 use Rattle.tileset.proofs.reading.unpack_cells.Tie as tie
 
+-- the pixels of the cells of a tile, h cells wide, that starts at a cell, in rows of r cells
+abbrev pixels : ℕ → ℕ → List ℕ → ℕ → ℕ → ℕ → ℕ → List ℕ
+pixels m d bytes h r first k = cellIn m d bytes (first + k / h * r + k % h)
+
 abbrev Inv-loop : tie.InvT-loop
-Inv-loop mode depth width height bytes n out₀ p size row first across count i₀ out i = (i ≤ width / 8 * (height / 8)) × Filling (λ k. cellIn mode depth bytes (firstCell mode width height n + k / (width / 8) * rowCells mode + k % (width / 8))) 64 out₀ i out
+Inv-loop mode depth width height bytes out₀ p size row first across count i₀ out i =
+    (i ≤ width / 8 * (height / 8)) × Filled (pixels mode depth bytes (width / 8) row (first .0)) out₀ 0 i out
 
 abbrev μ-loop : tie.MeasureT-loop
-μ-loop mode depth width height bytes n out₀ p size row first across count i₀ out i = width / 8 * (height / 8) - i
+μ-loop mode depth width height bytes out₀ p size row first across count i₀ out i = width / 8 * (height / 8) - i
 
 module _ (c : tie.Start Inv-loop μ-loop) where
+  abbrev bytes : List ℕ
+  bytes = now (c .args .bytes)
+
+  abbrev across : ℕ
+  across = c .args .width / 8
+
+  abbrev size : ℕ
+  size = c .args .depth * 8
+
   sound : IsSet (c .args .mode) (c .args .depth) (c .args .width) (c .args .height)
   sound = set-of _ _ _ _ (c .pre .sound)
 
-  grid : Grid (rowCells (c .args .mode)) (c .args .width / 8) (c .args .height / 8)
+  grid : Grid (rowCells (c .args .mode)) across (c .args .height / 8)
   grid = grid-set sound (c .pre .cells)
 
   cell-native : Native (c .args .mode) (c .args .depth) 8 8
   cell-native = native-cell sound (c .pre .cells)
 
-  few : c .args .width / 8 * (c .args .height / 8) ≤ 64
+  size-is : (r first k : ℕ) → length (pixels (c .args .mode) (c .args .depth) bytes across r first k) ≡ 64
+  size-is r first k = cell-in-length cell-native bytes (first + k / across * r + k % across)
+
+  few : across * (c .args .height / 8) ≤ 64
   few = omega (arith, cells-area sound, sound .small)
 
 module _ (c : tie.In-loop Inv-loop μ-loop) where
+  abbrev f : tie.After-first-cell Inv-loop μ-loop
+  f = c .before .before
+
   abbrev s : tie.Start Inv-loop μ-loop
-  s = c .before .before .before .before .before .before .before
+  s = f .before .before .before .before .before
 
   abbrev i : ℕ
   i = c .before .loop .i
 
+  abbrev row : ℕ
+  row = f .before .row-cells .result
+
   abbrev cell : ℕ
-  cell = firstCell (s .args .mode) (s .args .width) (s .args .height) (s .args .n) + i / (s .args .width / 8) * rowCells (s .args .mode) + i % (s .args .width / 8)
+  cell = f .first-cell .result .0 + i / across s * row + i % across s
 
-  abbrev found : ℕ
-  found = c .before .before .first-cell .result .0 + i / (s .args .width / 8) * c .before .before .before .row-cells .result + i % (s .args .width / 8)
+  row-is : i / across s * row ≡ i / across s * rowCells (s .args .mode)
+  row-is = ap (λ (r : ℕ). i / across s * r) (f .before .row-cells .ensures)
 
-  found-is : found ≡ cell
-  found-is = omega (arith, c .before .before .first-cell .ensures, ap (λ (r : ℕ). i / (s .args .width / 8) * r) (c .before .before .before .row-cells .ensures))
+  from : cell * size s + size s ≤ length (bytes s)
+  from =
+      let is : cell ≡ firstCell (s .args .mode) (s .args .width) (s .args .height) (s .args .n .0) + i / across s * rowCells (s .args .mode) + i % across s =
+      omega (arith, f .first-cell .ensures, row-is) in
+      rw is (cell-inside _ _ _ (grid s) (s .args .n .0) i (c .loop-test .taken) _ _ (s .pre .inside))
 
-  bytes-at : found * (s .args .depth * 8) ≡ cell * (s .args .depth * 8)
-  bytes-at = ap (λ (x : ℕ). x * (s .args .depth * 8)) found-is
+  row-few : i / across s * row ≤ 128
+  row-few = omega (arith, cell-row-fits _ _ _ (grid s) (s .args .n .0) i (c .loop-test .taken), row-is)
 
-  from : cell * (s .args .depth * 8) + s .args .depth * 8 ≤ length (now (s .args .bytes))
-  from = cell-inside _ _ _ (grid s) (s .args .n) i (c .loop-test .taken) _ _ (s .pre .inside)
+  first-few : f .first-cell .result .0 ≤ 9437040
+  first-few = omega (arith, f .first-cell .ensures, starts-few _ _ _ (grid s) (s .args .n .0) (s .pre .few))
 
-  row-few : i / (s .args .width / 8) * c .before .before .before .row-cells .result ≤ 128
-  row-few = omega (arith, cell-row-fits _ _ _ (grid s) (s .args .n) i (c .loop-test .taken), ap (λ (r : ℕ). i / (s .args .width / 8) * r) (c .before .before .before .row-cells .ensures))
-
-  first-few : c .before .before .first-cell .result .0 ≤ 9437040
-  first-few = omega (arith, c .before .before .first-cell .ensures, starts-few _ _ _ (grid s) (s .args .n) (s .pre .few))
-
-  column-few : i % (s .args .width / 8) ≤ 64
-  column-few = omega (arith, mod-le i (s .args .width / 8), few s, c .loop-test .taken)
+  column-few : i % across s ≤ 64
+  column-few = omega (arith, mod-le i (across s), few s, c .loop-test .taken)
 
   space : i * 64 + 64 ≤ 4096
   space = omega (arith, few s, c .loop-test .taken)
@@ -84,62 +107,64 @@ row-cells-requires : tie.Need-row-cells-requires Inv-loop μ-loop
 row-cells-requires c κs = search needs
 
 first-cell-requires : tie.Need-first-cell-requires Inv-loop μ-loop
-first-cell-requires c κs = (grid (c .before .before .before .before), c .before .before .before .before .pre .few)
+first-cell-requires c κs =
+    let s = c .before .before .before .before in
+    (grid s, s .pre .few)
 
 mul-count : tie.Need-mul-count Inv-loop μ-loop
 mul-count c = omega (arith, few (c .before .before .before .before .before))
 
 loop-holds : tie.Need-loop-holds Inv-loop μ-loop
-loop-holds c = (search needs, fill-none _ _ _)
+loop-holds c = (search needs, filled-none _ _ _)
 
-div-cell : tie.Need-div-cell Inv-loop μ-loop
-div-cell c = grid (c .before .before .before .before .before .before .before) .across
+div-t19 : tie.Need-div-t19 Inv-loop μ-loop
+div-t19 c = grid (s c) .across
 
-mul-cell : tie.Need-mul-cell Inv-loop μ-loop
-mul-cell c = omega (arith, row-few c)
+mul-t20 : tie.Need-mul-t20 Inv-loop μ-loop
+mul-t20 c = omega (arith, row-few c)
 
-add-cell : tie.Need-add-cell Inv-loop μ-loop
-add-cell c = omega (arith, row-few (c .before), first-few (c .before))
+add-t21 : tie.Need-add-t21 Inv-loop μ-loop
+add-t21 c = omega (arith, row-few (c .before), first-few (c .before))
 
-rem-cell : tie.Need-rem-cell Inv-loop μ-loop
-rem-cell c = grid (c .before .before .before .before .before .before .before .before) .across
+rem-t22 : tie.Need-rem-t22 Inv-loop μ-loop
+rem-t22 c = grid (s (c .before)) .across
 
-add-cell-2 : tie.Need-add-cell-2 Inv-loop μ-loop
-add-cell-2 c = omega (arith, row-few (c .before), first-few (c .before), column-few (c .before))
-
-cast-cell : tie.Need-cast-cell Inv-loop μ-loop
-cast-cell c = omega (arith, row-few (c .before), first-few (c .before), column-few (c .before))
-
-mul-put-pixels : tie.Need-mul-put-pixels Inv-loop μ-loop
-mul-put-pixels c = omega (arith, from (c .before), bytes-at (c .before))
+add-t23 : tie.Need-add-t23 Inv-loop μ-loop
+add-t23 c = omega (arith, row-few (c .before), first-few (c .before), column-few (c .before))
 
 cast-put-pixels : tie.Need-cast-put-pixels Inv-loop μ-loop
-cast-put-pixels c = omega (arith, space (c .before .before))
+cast-put-pixels c = search needs
+
+mul-put-pixels : tie.Need-mul-put-pixels Inv-loop μ-loop
+mul-put-pixels c = omega (arith, from (c .before .before))
+
+cast-put-pixels-2 : tie.Need-cast-put-pixels-2 Inv-loop μ-loop
+cast-put-pixels-2 c = omega (arith, space (c .before .before .before))
 
 mul-put-pixels-2 : tie.Need-mul-put-pixels-2 Inv-loop μ-loop
-mul-put-pixels-2 c = omega (arith, space (c .before .before))
+mul-put-pixels-2 c = omega (arith, space (c .before .before .before))
 
 put-pixels-requires : tie.Need-put-pixels-requires Inv-loop μ-loop
 put-pixels-requires c κs =
-    unpacks-at (cell-native (c .before .before .before .before .before .before .before .before .before)) (c .before .before .before .before .before .before .packing-of .ensures) _ _ _ _ (omega (arith, from (c .before .before), bytes-at (c .before .before))) (omega (arith, space (c .before .before), c .before .before .before .loop .inv .1 .long, c .before .before .before .before .before .before .before .before .before .pre .long))
+    let l = c .before .before .before in
+    unpacks-at (cell-native (s l)) (f l .before .before .packing-of .ensures) _ _ _ _ (from l)
+    (omega (arith, space l, l .before .loop .inv .1 .long, s l .pre .long))
 
 add-i : tie.Need-add-i Inv-loop μ-loop
-add-i c = omega (arith, few (c .before .before .before .before .before .before .before .before .before .before .before .before), c .before .before .before .before .before .loop-test .taken)
+add-i c =
+    let l = c .before .before .before .before .before .before in
+    omega (arith, few (s l), l .loop-test .taken)
 
 loop-less : tie.Need-loop-less Inv-loop μ-loop
 loop-less c = search needs
 
 loop-again : tie.Need-loop-again Inv-loop μ-loop
 loop-again c =
-    let s = c .before .before .before .before .before .before .before .before .before .before .before .before in
-    let l = c .before .before .before .before .before in
-    let a = s .args in (
+    let l = c .before .before .before .before .before .before in
+    let cell-is = unpacks-cell (cell-native (s l)) (f l .before .before .packing-of .ensures) (bytes (s l)) (cell l * size (s l)) in (
       search needs,
-      fill-more (λ j. cell-in-length (cell-native s) (now (a .bytes)) _) (c .before .before .before .before .before .before .loop .inv .1) (omega (arith, space l, s .pre .long))
-          (c .before .before .put-pixels .ensures
-          ∙ ap (λ (x : List ℕ). sets (c .before .before .before .before .before .before .loop .out) (c .before .before .before .before .before .before .loop .i * 64) x)
-          (unpacks-cell (cell-native s) (c .before .before .before .before .before .before .before .before .before .packing-of .ensures) (now (a .bytes)) (found l * (a .depth * 8))
-          ∙ ap (λ (x : ℕ). unpacked (a .mode) (a .depth) 8 8 (take (a .depth * 8) (drop x (now (a .bytes))))) (bytes-at l))),
+      front-more 64 (size-is (s l) _ _) (l .before .loop .inv .1)
+          (c .before .before .put-pixels .ensures ∙ ap (λ (x : List ℕ). sets (l .before .loop .out) (i l * 64) x) cell-is),
     )
 
 same-length : tie.Need-same-length Inv-loop μ-loop
@@ -147,9 +172,13 @@ same-length c = search needs
 
 returns : tie.Need-returns Inv-loop μ-loop
 returns c =
-    let s = c .before .before .before .before .before .before .before in
-    let all : c .before .loop .i ≡ s .args .width / 8 * (s .args .height / 8) = omega arith in
-    fill-all (λ j. cell-in-length (cell-native s) (now (s .args .bytes)) _) (c .before .loop .inv .1) all
+    let f = c .before .before in
+    let s = f .before .before .before .before .before in
+    let a = s .args in
+    let with : ℕ → ℕ → List ℕ = λ r first. overwrite (now (a .out)) (each (across s * (a .height / 8)) (pixels (a .mode) (a .depth) (bytes s) (across s) r first)) in
+    filled-front 64 (across s * (a .height / 8)) (size-is s _ _) (c .before .loop .inv .1) (omega arith) (omega (arith, few s, s .pre .long))
+    ∙ ap (λ (first : ℕ). with (f .before .row-cells .result) first) (f .first-cell .ensures)
+    ∙ ap (λ (r : ℕ). with r (firstCell (a .mode) (a .width) (a .height) (a .n .0))) (f .before .row-cells .ensures)
 
 pub unpack-cells-spec : {M : Type 1} → statement M
 unpack-cells-spec =
@@ -164,14 +193,14 @@ unpack-cells-spec =
     first-cell-requires
     mul-count
     loop-holds
-    div-cell
-    mul-cell
-    add-cell
-    rem-cell
-    add-cell-2
-    cast-cell
-    mul-put-pixels
+    div-t19
+    mul-t20
+    add-t21
+    rem-t22
+    add-t23
     cast-put-pixels
+    mul-put-pixels
+    cast-put-pixels-2
     mul-put-pixels-2
     put-pixels-requires
     add-i

@@ -1,11 +1,10 @@
 -- The tiles of whole strips of cells, and those of the strip after them.
-use mathlib.Core.Path.{refl}
+use mathlib.Core.Path.{sym}
 use Prim.Native.Nat.{_-_, _*_, _≤_, _<_}
 use native.Mathlib.Nat.{mul-le-mul, div-add-mod'}
 use native.Mathlib.Omega.{arith}
 use borrow.Author.Needs.{needs}
-use Rattle.tileset.specs.Reading.{wholeTiles}
-use Rattle.tileset.proofs.ReadingLaws.{strip-some, whole-fits, whole-only, count-fits}
+use Rattle.tileset.proofs.ReadingLaws.{strip-some, whole-fits, whole-tiles-are, strips-only, count-fits}
 use Rattle.tileset.proofs.reading.whole_tiles.Statement.{statement}
 use Rattle.tileset.proofs.reading.whole_tiles.Tie as tie
 
@@ -17,7 +16,7 @@ module _ (c : tie.Start) where
   above-few = mul-le-mul {n₂ = 8} (omega (arith, c .pre .low)) (c .pre .narrow)
 
   some : 0 < c .args .down * c .args .row
-  some = strip-some _ _ _ (c .pre) (c .args .cells)
+  some = strip-some _ _ _ (c .pre)
 
 mul-strip : tie.Need-mul-strip
 mul-strip c = omega (arith, strip-few c)
@@ -41,7 +40,7 @@ rem-rest : tie.Need-rem-rest
 rem-rest c = some c
 
 returns : tie.Need-returns
-returns c = whole-only _ _ _ (c .before .pre) (c .before .args .cells) (c .if1 .taken)
+returns c = strips-only _ _ _ (c .before .pre) (c .before .args .cells) (c .if1 .taken)
 
 div-result : tie.Need-div-result
 div-result c = search needs
@@ -50,8 +49,7 @@ add-result : tie.Need-add-result
 add-result c = omega (arith, count-fits _ _ _ (c .before .pre) (c .before .args .cells))
 
 returns-2 : tie.Need-returns-2
-unfolding wholeTiles
-returns-2 c = refl
+returns-2 c = sym (whole-tiles-are _ _ _ (c .before .pre) (c .before .args .cells))
 
 pub whole-tiles-spec : {M : Type 1} → statement M
 whole-tiles-spec =

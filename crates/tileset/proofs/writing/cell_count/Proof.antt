@@ -10,16 +10,22 @@ padded-cells-requires : tie.Need-padded-cells-requires
 padded-cells-requires c κs = search needs
 
 returns : tie.Need-returns
-returns c = (c .padded-cells .ensures .0 ∙ wide-cells (c .before .before .args .mode) _ (c .before .before .args .height) _ (c .before .if1 .taken), c .padded-cells .ensures .1)
+returns c =
+    let a = c .before .before .args in
+    (c .padded-cells .ensures .0 ∙ wide-cells (a .mode) _ (a .height) _ (c .before .if1 .taken), c .padded-cells .ensures .1)
 
 padded-cells-requires-2 : tie.Need-padded-cells-requires-2
 padded-cells-requires-2 c κs = search needs
 
 returns-2 : tie.Need-returns-2
-returns-2 c = (c .padded-cells2 .ensures .0 ∙ tall-cells (c .before .before .before .args .mode) (c .before .before .before .args .width) _ _ (c .before .if2 .taken), c .padded-cells2 .ensures .1)
+returns-2 c =
+    let a = c .before .before .before .args in
+    (c .padded-cells2 .ensures .0 ∙ tall-cells (a .mode) (a .width) _ _ (c .before .if2 .taken), c .padded-cells2 .ensures .1)
 
 returns-3 : tie.Need-returns-3
-returns-3 c = (single-cells (c .before .before .args .mode) _ _ _ (c .before .if1 .left) (c .if2 .left), omega (arith, c .before .before .pre .1))
+returns-3 c =
+    let s = c .before .before in
+    (single-cells (s .args .mode) _ _ _ (c .before .if1 .left) (c .if2 .left), omega (arith, s .pre .1))
 
 pub cell-count-spec : {M : Type 1} → statement M
 cell-count-spec =

@@ -2,8 +2,8 @@
 use Prim.Native.Nat.{_/_}
 use native.Mathlib.Omega.{arith}
 use borrow.Author.Needs.{needs}
-use Rattle.tileset.specs.Numbers.{Grid}
 use Rattle.tileset.specs.Writing.{paddedCells}
+use Rattle.tileset.specs.Inner.{Grid}
 use Rattle.tileset.proofs.NumberLaws.{grid-at}
 use Rattle.tileset.proofs.WritingLaws.{tiles-few, padded-down, padded-fits}
 use Rattle.tileset.proofs.writing.padded_cells.Statement.{statement}

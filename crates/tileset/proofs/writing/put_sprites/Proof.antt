@@ -7,50 +7,71 @@ use lib.Seq.{sets}
 use lib.ListN.{length}
 use denote.Ref.{now}
 use borrow.Author.Needs.{needs}
+use Rattle.words.proofs.Filling.{Filled, filled-none, filled-front}
 use Rattle.tile.specs.Packings.{byteCount}
 use Rattle.tile.proofs.Native.{Native, fitting}
 use Rattle.tileset.specs.Sets.{area}
 use Rattle.tileset.specs.Writing.{spriteBytes}
+use Rattle.tileset.specs.declared.Set.{Set}
 use Rattle.tileset.proofs.Sizes.{IsSet}
 use Rattle.tileset.proofs.Says.{held-set}
-use Rattle.tileset.proofs.WritingLaws.{Filling, fill-none, fill-more, fill-all, native-sprite, packs-at, packs-bytes, held-inside, sprite-length, sprites-space, item-space}
+use Rattle.tileset.proofs.WritingLaws.{native-sprite, packs-at, packs-bytes, held-inside, sprite-length, sprites-space, item-space, front-more}
 use Rattle.tileset.proofs.writing.put_sprites.Statement.{statement}
 use Rattle.tileset.proofs.writing.put_sprites.Tie as tie
 
 abbrev Inv-loop : tie.InvT-loop
-Inv-loop set store out₀ p n size i₀ out i = (i ≤ set .stored) × Filling (spriteBytes set store) (area set * set .depth / 8) out₀ i out
+Inv-loop set store out₀ p n size i₀ out i = (i ≤ set .stored) × Filled (spriteBytes set store) out₀ 0 i out
 
 abbrev μ-loop : tie.MeasureT-loop
 μ-loop set store out₀ p n size i₀ out i = set .stored - i
 
 module _ (c : tie.Start Inv-loop μ-loop) where
-  sound : let z = c .args .set in IsSet (z .mode) (z .depth) (z .width) (z .height)
-  sound = held-set (c .args .set) _ (c .pre .0 .held)
+  abbrev z : Set
+  z = c .args .set
 
-  sprite : let z = c .args .set in Native (z .mode) (z .depth) (z .width) (z .height)
+  abbrev store : List ℕ
+  store = now (c .args .store)
+
+  abbrev out : List ℕ
+  out = now (c .args .out)
+
+  abbrev size : ℕ
+  size = area z * z .depth / 8
+
+  sound : IsSet (z .mode) (z .depth) (z .width) (z .height)
+  sound = held-set z _ (c .pre .0 .held)
+
+  sprite : Native (z .mode) (z .depth) (z .width) (z .height)
   sprite = native-sprite sound (c .pre .1)
 
-  size-is : (k : ℕ) → length (spriteBytes (c .args .set) (now (c .args .store)) k) ≡ area (c .args .set) * c .args .set .depth / 8
-  size-is = sprite-length (c .args .set) _ (c .pre .0 .held) (c .pre .1) (now (c .args .store))
+  size-is : (k : ℕ) → length (spriteBytes z store k) ≡ size
+  size-is = sprite-length z _ (c .pre .0 .held) (c .pre .1) store
 
-  space : c .args .set .stored * (area (c .args .set) * c .args .set .depth / 8) ≤ length (now (c .args .out))
-  space = omega (arith, sprites-space (c .args .set) (now (c .args .store)) (c .pre .0 .held) (c .pre .1), c .pre .0 .space)
+  space : z .stored * size ≤ length out
+  space = omega (arith, sprites-space z store (c .pre .0 .held) (c .pre .1), c .pre .0 .space)
 
-bytes-are : (c : tie.After-byte-count Inv-loop μ-loop) → c .byte-count .result ≡ area (c .before .before .before .before .before .args .set) * c .before .before .before .before .before .args .set .depth / 8
-bytes-are c = c .byte-count .ensures ∙ ap byteCount (c .before .before .packing-of .ensures) ∙ fitting (sprite (c .before .before .before .before .before)) .bytes
+module _ (c : tie.After-byte-count Inv-loop μ-loop) where
+  abbrev s : tie.Start Inv-loop μ-loop
+  s = c .before .before .before .before .before
+
+  bytes-are : c .byte-count .result ≡ size s
+  bytes-are = c .byte-count .ensures ∙ ap byteCount (c .before .before .packing-of .ensures) ∙ fitting (sprite s) .bytes
 
 module _ (c : tie.Then1 Inv-loop μ-loop) where
+  abbrev b : tie.After-byte-count Inv-loop μ-loop
+  b = c .before .before .before
+
   abbrev i : ℕ
   i = c .before .before .loop .i
 
-  from : i * area (c .before .before .before .before .before .before .before .before .args .set) + area (c .before .before .before .before .before .before .before .before .args .set) ≤ length (now (c .before .before .before .before .before .before .before .before .args .store))
-  from = item-space (c .before .before .before .before .before .before .before .before .args .set .stored) _ _ i (held-inside (c .before .before .before .before .before .before .before .before .args .set) _ (c .before .before .before .before .before .before .before .before .pre .0 .held)) (c .if1 .taken)
+  from : i * area (z (s b)) + area (z (s b)) ≤ length (store (s b))
+  from = item-space (z (s b) .stored) _ _ i (held-inside (z (s b)) _ (s b .pre .0 .held)) (c .if1 .taken)
 
-  bytes-at : i * c .before .before .before .byte-count .result ≡ i * (area (c .before .before .before .before .before .before .before .before .args .set) * c .before .before .before .before .before .before .before .before .args .set .depth / 8)
-  bytes-at = ap (λ (k : ℕ). i * k) (bytes-are (c .before .before .before))
+  bytes-at : i * b .byte-count .result ≡ i * size (s b)
+  bytes-at = ap (λ (k : ℕ). i * k) (bytes-are b)
 
-  here : i * (area (c .before .before .before .before .before .before .before .before .args .set) * c .before .before .before .before .before .before .before .before .args .set .depth / 8) + area (c .before .before .before .before .before .before .before .before .args .set) * c .before .before .before .before .before .before .before .before .args .set .depth / 8 ≤ length (now (c .before .before .before .before .before .before .before .before .args .out))
-  here = item-space (c .before .before .before .before .before .before .before .before .args .set .stored) _ _ i (space (c .before .before .before .before .before .before .before .before)) (c .if1 .taken)
+  here : i * size (s b) + size (s b) ≤ length (out (s b))
+  here = item-space (z (s b) .stored) _ _ i (space (s b)) (c .if1 .taken)
 
 packing-of-requires : tie.Need-packing-of-requires Inv-loop μ-loop
 packing-of-requires c κs = sound (c .before .before) .mode
@@ -65,7 +86,7 @@ byte-count-requires : tie.Need-byte-count-requires Inv-loop μ-loop
 byte-count-requires c κs = rw (c .before .packing-of .ensures) (fitting (sprite (c .before .before .before .before)) .sound)
 
 loop-holds : tie.Need-loop-holds Inv-loop μ-loop
-loop-holds c = (search needs, fill-none _ _ _)
+loop-holds c = (search needs, filled-none _ _ _)
 
 cast-k : tie.Need-cast-k Inv-loop μ-loop
 cast-k c = search needs
@@ -78,7 +99,9 @@ mul-put-tile-2 c = omega (arith, here (c .before), bytes-at (c .before))
 
 put-tile-requires : tie.Need-put-tile-requires Inv-loop μ-loop
 put-tile-requires c κs =
-    packs-at (c .before .before .before .before .before .before .packing-of .ensures) (sprite (c .before .before .before .before .before .before .before .before .before)) _ _ _ _ (from (c .before)) (omega (arith, here (c .before), bytes-at (c .before), c .before .before .before .loop .inv .1 .long))
+    let t = c .before in
+    packs-at (b t .before .before .packing-of .ensures) (sprite (s (b t))) _ _ _ _ (from t)
+    (omega (arith, here t, bytes-at t, t .before .before .loop .inv .1 .long))
 
 add-i : tie.Need-add-i Inv-loop μ-loop
 add-i c = search needs
@@ -88,13 +111,15 @@ loop-less c = search needs
 
 loop-again : tie.Need-loop-again Inv-loop μ-loop
 loop-again c =
-    let s = c .before .before .before .before .before .before .before .before .before .before .before .before in
-    let lp = c .before .before .before .before .before .before .loop in (
+    let t = c .before .before .before .before in
+    let lp = t .before .before .loop in
+    let s0 = s (b t) in
+    let bytes = packs-bytes (b t .before .before .packing-of .ensures) (sprite s0) (store s0) (lp .i * area (z s0)) in (
       search needs,
-      fill-more (size-is s) (lp .inv .1) (here (c .before .before .before .before))
+      front-more (size s0) (size-is s0) (lp .inv .1)
           (c .before .before .put-tile .ensures
-          ∙ ap (λ (l : List ℕ). sets (lp .out) (lp .i * c .before .before .before .before .before .before .before .byte-count .result) l) (packs-bytes (c .before .before .before .before .before .before .before .before .before .packing-of .ensures) (sprite s) (now (s .args .store)) (lp .i * area (s .args .set)))
-          ∙ ap (λ (k : ℕ). sets (lp .out) k (spriteBytes (s .args .set) (now (s .args .store)) (lp .i))) (bytes-at (c .before .before .before .before))),
+          ∙ ap (λ (l : List ℕ). sets (lp .out) (lp .i * b t .byte-count .result) l) bytes
+          ∙ ap (λ (k : ℕ). sets (lp .out) k (spriteBytes (z s0) (store s0) (lp .i))) (bytes-at t)),
     )
 
 same-length : tie.Need-same-length Inv-loop μ-loop
@@ -102,9 +127,8 @@ same-length c = search needs
 
 returns : tie.Need-returns Inv-loop μ-loop
 returns c =
-    let s = c .before .before .before .before .before .before .before .before in
-    let all : c .before .before .loop .i ≡ s .args .set .stored = omega arith in
-    fill-all (size-is s) (c .before .before .loop .inv .1) all
+    let s0 = s (c .before .before .before) in
+    filled-front (size s0) (z s0 .stored) (size-is s0) (c .before .before .loop .inv .1) (omega arith) (space s0)
 
 pub put-sprites-spec : {M : Type 1} → statement M
 put-sprites-spec =

@@ -34,9 +34,12 @@ wide-requires c κs = search needs
 
 returns : tie.Need-returns Inv-loop μ-loop
 returns c =
-    let a = c .before .before .before .before .before .before .before .args in
-    let i = c .before .before .before .before .loop .i in
-    sym (some-true (a .count) (tooLarge (a .depth) (now (a .store))) i (c .before .before .before .loop-test .taken) (le-leb (2 ^ a .depth) (getD (now (a .store)) i 0) (omega (arith, c .before .before .before .before .before .up .ensures, c .before .wide .ensures .0))))
+    let l = c .before .before .before in
+    let u = l .before .before in
+    let a = u .before .before .args in
+    let i = l .before .loop .i in
+    let large = le-leb (2 ^ a .depth) (getD (now (a .store)) i 0) (omega (arith, u .up .ensures, c .before .wide .ensures .0)) in
+    sym (some-true (a .count) (tooLarge (a .depth) (now (a .store))) i (l .loop-test .taken) large)
 
 add-i : tie.Need-add-i Inv-loop μ-loop
 add-i c = search needs
@@ -46,9 +49,11 @@ loop-less c = search needs
 
 loop-again : tie.Need-loop-again Inv-loop μ-loop
 loop-again c =
-    let a = c .before .before .before .before .before .before .before .args in
-    let i = c .before .before .before .before .loop .i in
-    (omega arith, rw (add-one, c .before .before .before .before .loop .inv .1) (lt-leb (2 ^ a .depth) (getD (now (a .store)) i 0) (omega (arith, c .before .before .before .before .before .up .ensures, c .before .wide .ensures .0))))
+    let i = c .before .before .before .before .loop in
+    let u = c .before .before .before .before .before in
+    let a = u .before .before .args in
+    let small = lt-leb (2 ^ a .depth) (getD (now (a .store)) (i .i) 0) (omega (arith, u .up .ensures, c .before .wide .ensures .0)) in
+    (omega arith, rw (add-one, i .inv .1) small)
 
 returns-2 : tie.Need-returns-2 Inv-loop μ-loop
 returns-2 c =

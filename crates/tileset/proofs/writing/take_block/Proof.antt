@@ -1,18 +1,18 @@
 -- The pixels before i are gathered.
-use mathlib.Core.Path.{_≡_, refl}
-use mathlib.Core.List.{[], _∷_, _++_}
+use mathlib.Core.Path.{refl}
+use mathlib.Core.List.{[], _∷_}
 use Prim.Native.Nat.{_*_, _/_, _%_, _<_, _≤_, _-_, _+_}
 use native.Mathlib.Omega.{arith}
-use lib.ListN.{getD, drop, length-set, length}
+use lib.ListN.{getD, length}
 use denote.Ref.{now}
 use borrow.Author.Needs.{needs}
-use Rattle.words.specs.Loops.{each}
-use Rattle.tileset.proofs.WritingLaws.{block-at, take-block-more, take-block-all}
+use Rattle.words.proofs.Filling.{Filled, filled-none, filled-whole}
+use Rattle.tileset.proofs.WritingLaws.{block-at, front-one}
 use Rattle.tileset.proofs.writing.take_block.Statement.{statement}
 use Rattle.tileset.proofs.writing.take_block.Tie as tie
 
 abbrev Inv-loop : tie.InvT-loop
-Inv-loop store corner width out₀ i₀ out i = (i ≤ 64) × ((out ≡ each i (λ k. getD store (corner + k / 8 * width + k % 8) 0 ∷ []) ++ drop i out₀) × (length out ≡ 64))
+Inv-loop store corner width out₀ i₀ out i = (i ≤ 64) × Filled (λ k. getD store (corner + k / 8 * width + k % 8) 0 ∷ []) out₀ 0 i out
 
 abbrev μ-loop : tie.MeasureT-loop
 μ-loop store corner width out₀ i₀ out i = 64 - i
@@ -23,7 +23,7 @@ near c =
     block-at (a .width) (a .corner) (length (now (a .store))) (c .before .loop .i) (c .before .before .pre .inside) (c .loop-test .taken)
 
 loop-holds : tie.Need-loop-holds Inv-loop μ-loop
-loop-holds c = (search needs, (refl, c .pre .long))
+loop-holds c = (search needs, filled-none _ _ _)
 
 mul-out : tie.Need-mul-out Inv-loop μ-loop
 mul-out c = omega (arith, near c)
@@ -38,7 +38,7 @@ shared-slice-read-out : tie.Need-shared-slice-read-out Inv-loop μ-loop
 shared-slice-read-out c = near (c .before)
 
 slice-write-out : tie.Need-slice-write-out Inv-loop μ-loop
-slice-write-out c = omega (arith, c .before .before .loop .inv .1 .1, c .before .loop-test .taken)
+slice-write-out c = omega (arith, c .before .before .loop .inv .1 .long, c .before .before .before .pre .long, c .before .loop-test .taken)
 
 add-i : tie.Need-add-i Inv-loop μ-loop
 add-i c = search needs
@@ -47,23 +47,13 @@ loop-less : tie.Need-loop-less Inv-loop μ-loop
 loop-less c = search needs
 
 loop-again : tie.Need-loop-again Inv-loop μ-loop
-loop-again c =
-    let a = c .before .before .before .args in
-    let i = c .before .before .loop .i in (
-      search needs,
-      (
-        take-block-more (λ k. getD (now (a .store)) (a .corner + k / 8 * a .width + k % 8) 0) _ _ i _ (c .before .before .loop .inv .1 .0) (omega (arith, c .before .before .before .pre .long, c .before .loop-test .taken)) refl,
-        simp length-set (c .before .before .loop .inv .1 .1),
-      ),
-    )
+loop-again c = (search needs, front-one (c .before .before .loop .inv .1))
 
 same-length : tie.Need-same-length Inv-loop μ-loop
-same-length c = search needs
+same-length c = c .before .loop .inv .1 .long
 
 returns : tie.Need-returns Inv-loop μ-loop
-returns c =
-    let a = c .before .before .args in
-    take-block-all (λ k. getD (now (a .store)) (a .corner + k / 8 * a .width + k % 8) 0) _ _ (c .before .loop .i) 64 (c .before .loop .inv .1 .0) (c .before .before .pre .long) (omega arith)
+returns c = filled-whole 1 64 (λ j. refl) (c .before .loop .inv .1) (omega arith) (c .before .before .pre .long)
 
 pub take-block-spec : {M : Type 1} → statement M
 take-block-spec =

@@ -7,14 +7,33 @@ use denote.Ref.{now}
 use borrow.Author.Needs.{needs}
 use Rattle.words.specs.Answers.{written, overwrite}
 use Rattle.words.proofs.Answers.{refuse, done}
+use Rattle.tileset.specs.Sets.{heldSays}
 use Rattle.tileset.specs.Writing.{writeSays}
+use Rattle.tileset.specs.Inner.{Writes}
+use Rattle.tileset.specs.declared.Set.{Set}
 use Rattle.tileset.proofs.Says.{held-says-set}
 use Rattle.tileset.proofs.WritingLaws.{held-few, write-held, write-space, sprite-set, cell-set}
 use Rattle.tileset.proofs.writing.write.Statement.{statement}
 use Rattle.tileset.proofs.writing.write.Tie as tie
 
-accepted : (c : tie.Else1) → writeSays (c .before .before .before .before .args .set) (now (c .before .before .before .before .args .store)) (length (now (c .before .before .before .before .args .out))) ≡ 0
-accepted c = sym (c .before .write-says .ensures) ∙ c .if1 .left
+module _ (c : tie.Else1) where
+  abbrev z : Set
+  z = c .before .before .before .before .args .set
+
+  abbrev store : List ℕ
+  store = now (c .before .before .before .before .args .store)
+
+  abbrev out : List ℕ
+  out = now (c .before .before .before .before .args .out)
+
+  accepted : writeSays z store (length out) ≡ 0
+  accepted = sym (c .before .write-says .ensures) ∙ c .if1 .left
+
+  held : heldSays z (length store) ≡ 0
+  held = write-held z store _ accepted
+
+  writes : Writes z store out
+  writes = record { held = held; space = write-space z store _ accepted }
 
 write-says-requires : tie.Need-write-says-requires
 write-says-requires c κs = search needs
@@ -26,40 +45,37 @@ returns : tie.Need-returns
 returns c = refuse (c .before .before .write-says .result) (c .before .before .write-says .ensures) (c .before .if1 .taken) (c .refused .ensures) refl
 
 write-size-requires : tie.Need-write-size-requires
-write-size-requires c κs =
-    let a = c .before .before .before .before .args in
-    let held = write-held (a .set) (now (a .store)) _ (accepted c) in
-    (held-says-set (a .set) _ held, held-few (a .set) _ held)
+write-size-requires c κs = (held-says-set (z c) _ (held c), held-few (z c) _ (held c))
 
 put-sprites-requires : tie.Need-put-sprites-requires
-put-sprites-requires c κs =
-    let a = c .before .before .before .before .before .before .before .before .args in
-    (record { held = write-held (a .set) (now (a .store)) _ (accepted (c .before .before .before .before)); space = write-space (a .set) (now (a .store)) _ (accepted (c .before .before .before .before)) }, c .before .if2 .taken)
+put-sprites-requires c κs = (writes (c .before .before .before .before .before), c .before .if2 .taken)
 
 same-length : tie.Need-same-length
 same-length c = search needs
 
 returns-2 : tie.Need-returns-2
 returns-2 c =
-    let a = c .before .before .before .before .before .before .before .before .before .before .before .args in
-    let z = accepted (c .before .before .before .before .before .before .before) in
-    let bytes = sprite-set (a .set) (now (a .store)) (write-held (a .set) (now (a .store)) _ z) (c .before .before .before .before .if2 .taken) in
-    done z (ap (λ (n : ℕ). written 0 n) (c .before .before .before .before .before .before .write-size .ensures ∙ bytes .1)) (c .before .before .put-sprites .ensures ∙ ap (λ (l : List ℕ). overwrite (now (a .out)) l) (bytes .0))
+    let i = c .before .before .before .before in
+    let w = i .before .before .before in
+    let e = w .before in
+    let bytes = sprite-set (z e) (store e) (held e) (i .if2 .taken) in
+    done (accepted e) (ap (λ (n : ℕ). written 0 n) (w .write-size .ensures ∙ bytes .1))
+    (c .before .before .put-sprites .ensures ∙ ap (λ (l : List ℕ). overwrite (out e) l) (bytes .0))
 
 put-cells-requires : tie.Need-put-cells-requires
-put-cells-requires c κs =
-    let a = c .before .before .before .before .before .before .before .before .args in
-    (record { held = write-held (a .set) (now (a .store)) _ (accepted (c .before .before .before .before)); space = write-space (a .set) (now (a .store)) _ (accepted (c .before .before .before .before)) }, c .before .if2 .left)
+put-cells-requires c κs = (writes (c .before .before .before .before .before), c .before .if2 .left)
 
 same-length-2 : tie.Need-same-length-2
 same-length-2 c = search needs
 
 returns-3 : tie.Need-returns-3
 returns-3 c =
-    let a = c .before .before .before .before .before .before .before .before .before .before .before .args in
-    let z = accepted (c .before .before .before .before .before .before .before) in
-    let bytes = cell-set (a .set) (now (a .store)) (write-held (a .set) (now (a .store)) _ z) (c .before .before .before .before .if2 .left) in
-    done z (ap (λ (n : ℕ). written 0 n) (c .before .before .before .before .before .before .write-size .ensures ∙ bytes .1)) (c .before .before .put-cells .ensures ∙ ap (λ (l : List ℕ). overwrite (now (a .out)) l) (bytes .0))
+    let i = c .before .before .before .before in
+    let w = i .before .before .before in
+    let e = w .before in
+    let bytes = cell-set (z e) (store e) (held e) (i .if2 .left) in
+    done (accepted e) (ap (λ (n : ℕ). written 0 n) (w .write-size .ensures ∙ bytes .1))
+    (c .before .before .put-cells .ensures ∙ ap (λ (l : List ℕ). overwrite (out e) l) (bytes .0))
 
 pub write-spec : {M : Type 1} → statement M
 write-spec =

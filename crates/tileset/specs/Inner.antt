@@ -1,0 +1,84 @@
+-- What the functions inside ask of their callers, and what they compute on the way.
+-- Assumes nothing.
+use mathlib.Core.Path.{_≡_}
+use mathlib.Core.List.{List, [], _∷_}
+use Prim.Native.Nat.{ℕ, _+_, _*_, _/_, _%_, _<_, _≤_}
+use lib.ListN.{length, getD}
+use Rattle.words.specs.Loops.{each}
+use Rattle.mode.specs.Table.{pce-sprite}
+use Rattle.tileset.specs.Sets.{area, setSays, heldSays}
+use Rattle.tileset.specs.Numbers.{rowCells, firstCell, tileOf}
+use Rattle.tileset.specs.Writing.{writeSize}
+use Rattle.tileset.specs.Reading.{readCount, cellIn, lastCell}
+use Rattle.tileset.specs.declared.Set.{Set}
+
+-- ---- numbers, writing and reading
+
+-- With r, h, v for R, H, V, where the sizes are allowed: whole tiles in a row of cells, and few cells.
+pub record Grid (r h v : ℕ) : Type 0 where
+  pub row : r ≡ r / h * h
+  pub tiles : 0 < r / h
+  pub across : 0 < h
+  pub down : 0 < v
+  pub narrow : r ≤ 16
+  pub low : v ≤ 8
+
+-- What writing a set's bytes asks, and one cell's.
+pub record Writes (z : Set) (store out : List ℕ) : Type 0 where
+  pub held : heldSays z (length store) ≡ 0
+  pub space : writeSize z ≤ length out
+
+pub record PutsCell (z : Set) (store out : List ℕ) (at : ℕ) : Type 0 where
+  pub held : heldSays z (length store) ≡ 0
+  pub cells : z .mode ≡ pce-sprite → ⊥
+  pub space : at + z .depth * 8 ≤ length out
+
+-- A cell of a tile, and where its pixels start.
+pub record HasCorner (z : Set) (c tile : ℕ) : Type 0 where
+  pub grid : Grid (rowCells (z .mode)) (z .width / 8) (z .height / 8)
+  pub across : z .width ≡ z .width / 8 * 8
+  pub down : z .height ≡ z .height / 8 * 8
+  pub small : area z ≤ 4096
+  pub few : tile ≤ 65535
+  pub is : tile ≡ tileOf (z .mode) (z .width) (z .height) c
+
+-- A block of eight by eight pixels of a store.
+pub record HasBlock (store : List ℕ) (corner w : ℕ) (out : List ℕ) : Type 0 where
+  pub inside : corner + 7 * w + 8 ≤ length store
+  pub long : length out ≡ 64
+
+-- What reading the tiles asks, the cells of one tile up to its last, its rows, and one row.
+pub record ReadsAll (m d w h : ℕ) (bytes store : List ℕ) (count : ℕ) : Type 0 where
+  pub sound : setSays m d w h ≡ 0
+  pub cells : m ≡ pce-sprite → ⊥
+  pub few : count ≤ 65535
+  pub is : count ≡ readCount m d w h (length bytes)
+  pub space : count * (w * h) ≤ length store
+
+pub record ReadsCells (m d w h : ℕ) (bytes : List ℕ) (n : ℕ) (out : List ℕ) : Type 0 where
+  pub sound : setSays m d w h ≡ 0
+  pub cells : m ≡ pce-sprite → ⊥
+  pub few : n ≤ 65535
+  pub inside : (lastCell (rowCells m) (w / 8) (h / 8) n + 1) * (d * 8) ≤ length bytes
+  pub long : length out ≡ 4096
+
+pub record ReadsRows (w h : ℕ) (cells out : List ℕ) (at : ℕ) : Type 0 where
+  pub across : w ≡ w / 8 * 8
+  pub down : h ≡ h / 8 * 8
+  pub inside : w * h ≤ length cells
+  pub space : at + w * h ≤ length out
+
+pub record ReadsRow (w y : ℕ) (cells out : List ℕ) (at : ℕ) : Type 0 where
+  pub across : w ≡ w / 8 * 8
+  pub inside : (y / 8 * 8 + 8) * w ≤ length cells
+  pub space : at + w ≤ length out
+
+-- The pixels of a tile's cells, cell after cell, row by row of cells; and where pixel (y, x) of the tile is among them.
+abbrev pub cellsIn : ℕ → ℕ → ℕ → ℕ → List ℕ → ℕ → List ℕ
+cellsIn m d w h bytes n = each (w / 8 * (h / 8)) (λ k. cellIn m d bytes (firstCell m w h n + k / (w / 8) * rowCells m + k % (w / 8)))
+
+abbrev pub placeIn : ℕ → ℕ → ℕ → ℕ
+placeIn w y x = (y / 8 * (w / 8) + x / 8) * 64 + y % 8 * 8 + x % 8
+
+abbrev pub rowOf : ℕ → List ℕ → ℕ → List ℕ
+rowOf w cells y = each w (λ x. getD cells (placeIn w y x) 0 ∷ [])
