@@ -11,7 +11,7 @@ use Rattle.tileset.specs.Sets.{noSet, emptied, answeredSet}
 use Rattle.tileset.specs.Adding.{Adds}
 use Rattle.tileset.specs.Matched.{Apart}
 use Rattle.tileset.specs.Keeping.{keepAll, repeats}
-use Rattle.tileset.specs.Numbers.{rowCells, firstCell, Grid}
+use Rattle.tileset.specs.Numbers.{rowCells, firstCell}
 use Rattle.tileset.specs.Reading.{readCount, readableSays, readSet, Reads}
 use Rattle.tileset.specs.History.{setTiles, Call, addCall, resetCall, lookCall, Promised, numberOf, setAfter, storeAfter, lastSet, lastStore, Calls}
 use Rattle.tileset.specs.History.{Since, sinceReset, sinceStart, tilesRead, sinceRead, sinceCall, sinceCalls, asked, callOf, callsOf}
