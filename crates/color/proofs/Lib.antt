@@ -4,3 +4,4 @@ pub mod Unpacking
 pub mod Channels
 pub mod Trips
 pub mod Laws
+pub mod Lowest

@@ -5,3 +5,4 @@ pub mod Packings
 pub mod Native
 pub mod Checks
 pub mod Laws
+pub mod Lowest
