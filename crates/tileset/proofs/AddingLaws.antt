@@ -4,20 +4,18 @@ use mathlib.Core.Path.{_≡_, refl, sym, ap, _∙_}
 use mathlib.Core.Bool.{Bool, true, false, not, cond, _&&_, and-false}
 use mathlib.Core.List.{List, [], _∷_}
 use Prim.Native.Nat.{ℕ, _<_, _≤_}
-use native.Mathlib.Omega.{arith}
 use lib.ListN.{length}
 use borrow.Author.Tests.{le-leb, lt-leb}
 use Rattle.words.specs.Answers.{_when_, firstApplying}
-use Rattle.words.proofs.Answers.{first-given, either-way, when-refused, when-done}
-use Rattle.words.proofs.Order.{first-append}
-use Rattle.tileset.specs.Sets.{roomIn, lookChecks, lookSays, answeredSet}
+use Rattle.words.proofs.Answers.{either-way, when-refused}
+use Rattle.tileset.specs.Sets.{roomIn, lookChecks, lookSays}
 use Rattle.tileset.specs.Finding.{foundIn, isFound}
 use Rattle.tileset.specs.Adding.{discards, noRoom, counterFull, endChecks, oneStored, oneDiscarded, atEnd, addSays, added, storeWith, Adds, AddsTile, Stores, discardAnswer}
 use Rattle.tileset.specs.declared.Set.{Set}
 use Rattle.tileset.specs.declared.SetAnswer.{SetAnswer}
 use Rattle.tileset.specs.declared.Found.{Found}
 use Rattle.tileset.specs.declared.Found.the-variants.{Nothing}
-use Rattle.tileset.proofs.Says.{next-given, refused-set, done-set}
+use Rattle.tileset.proofs.Says.{checks-given, checks-after, checks-first, refused-set}
 
 -- one of the two last checks counts
 ends-by : (d a b : Bool) → firstApplying (12 when (not d && a) ∷ 13 when (d && b) ∷ []) ≡ cond d (13 when b) (12 when a)
@@ -51,14 +49,21 @@ module _ (z : Set) (s p : List ℕ) where
   discards-found e f = ap (λ (b : Bool). b && isFound (foundIn z s p)) e ∙ f
 
   -- first the checks of a look-up, then the last two
-  pub says-first : addSays z s p ≡ firstApplying (looks ∷ endChecks z (foundIn z s p) room)
+  abbrev firsts : List ℕ
+  firsts = lookChecks z (length s) (length p)
+
+  abbrev ends : List ℕ
+  ends = endChecks z (foundIn z s p) room
+
+  pub add-looks : addSays z s p ≡ 0 → looks ≡ 0
   unfolding addSays lookSays
-  says-first = first-append (lookChecks z (length s) (length p)) (endChecks z (foundIn z s p) room)
+  add-looks done = checks-first firsts ends done
 
   module _ (d : Bool) (e : gone ≡ d) where
     pub add-says : looks ≡ 0 → addSays z s p ≡ cond d (13 when counterFull z) (12 when noRoom z room)
+    unfolding addSays lookSays
     add-says fine =
-        says-first ∙ next-given (endChecks z (foundIn z s p) room) fine ∙ ends-by gone (noRoom z room) (counterFull z)
+        checks-after firsts ends fine ∙ ends-by gone (noRoom z room) (counterFull z)
         ∙ ap (λ (b : Bool). cond b (13 when counterFull z) (12 when noRoom z room)) e
 
     pub added-is : added z s p ≡ cond d (oneDiscarded z) (oneStored z)
@@ -73,8 +78,9 @@ module _ (z : Set) (s p : List ℕ) where
 
   module _ {r : SetAnswer} {after : List ℕ} where
     pub refuse-add : (n : ℕ) → n ≡ looks → (n ≡ 0 → ⊥) → r ≡ record { refusal = n; set = z } → after ≡ s → AddsTile z s p r after
+    unfolding addSays lookSays
     refuse-add n e h a l =
-        let due : n ≡ addSays z s p = first-given n (endChecks z (foundIn z s p) room) e h ∙ sym says-first in
+        let due : n ≡ addSays z s p = checks-given firsts ends n e h in
         record {
           answer = a ∙ refused-set n (added z s p) z due h;
           lent = l ∙ sym (when-refused (addSays z s p) (storeWith z s p) s (λ q. h (due ∙ q)));

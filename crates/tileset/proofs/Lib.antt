@@ -14,3 +14,4 @@ pub mod Written
 pub mod ReadingLaws
 pub mod ReadBack
 pub mod TilesRead
+pub mod LowestAdding

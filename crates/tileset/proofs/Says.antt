@@ -2,16 +2,17 @@
 -- Assumes nothing.
 use mathlib.Core.Path.{_≡_, refl, sym, ap, _∙_}
 use mathlib.Core.Bool.{Bool, true, false, not, cond}
-use mathlib.Core.List.{List, [], _∷_}
+use mathlib.Core.List.{List, [], _∷_, _++_}
 use Prim.Native.Nat.{ℕ, zero, suc, _+_, _*_, _/_, _<_, _≤_}
 use native.Mathlib.Nat.{suc-ne-zero, le-trans, le-div-iff-mul-le, mul-pos, suc-mul}
 use native.Mathlib.Omega.{arith}
 use lib.Dec.{ltb, eqb}
-use lib.ListN.{length, getD}
+use lib.ListN.{length}
 use borrow.Author.Tests.{lt-ltb, le-ltb, ltb-false, eq-eqb, ne-eqb, eqb-true, not-false}
 use Rattle.words.specs.Answers.{_when_, firstApplying}
 use Rattle.words.proofs.Answers.{all-passed, not-given, first-given, when-done, when-refused}
-use Rattle.tileset.specs.Sets.{area, setRoom, roomIn, setSays, heldChecks, heldSays, lookChecks, lookSays, answeredSet}
+use Rattle.words.proofs.Order.{first-append}
+use Rattle.tileset.specs.Sets.{area, setRoom, roomIn, setChecks, setSays, heldChecks, heldSays, lookSays, answeredSet}
 use Rattle.tileset.specs.Finding.{noPlace, placeOf, placed, Looks}
 use Rattle.tileset.specs.Numbers.{nativeAnswer, logicalAnswer, gridSays, nativeSays, logicalSays, tileOf}
 use Rattle.tileset.specs.declared.Set.{Set}
@@ -25,6 +26,20 @@ use Rattle.tileset.proofs.Sizes.{IsSet, set-of}
 pub next-given : {n : ℕ} (ns : List ℕ) → n ≡ 0 → firstApplying (n ∷ ns) ≡ firstApplying ns
 next-given {n = zero} ns e = refl
 next-given {n = suc n} ns e = absurd (suc-ne-zero n e)
+
+-- checks after checks
+module _ (xs ys : List ℕ) where
+  pub checks-given : (n : ℕ) → n ≡ firstApplying xs → (n ≡ 0 → ⊥) → n ≡ firstApplying (xs ++ ys)
+  checks-given n e due = first-given n ys e due ∙ sym (first-append xs ys)
+
+  pub checks-after : firstApplying xs ≡ 0 → firstApplying (xs ++ ys) ≡ firstApplying ys
+  checks-after e = first-append xs ys ∙ next-given ys e
+
+  pub checks-first : firstApplying (xs ++ ys) ≡ 0 → firstApplying xs ≡ 0
+  checks-first e = all-passed (firstApplying xs ∷ ys) (sym (first-append xs ys) ∙ e) 0
+
+  pub checks-rest : firstApplying (xs ++ ys) ≡ 0 → firstApplying ys ≡ 0
+  checks-rest e = sym (checks-after (checks-first e)) ∙ e
 
 -- ---- answers
 
@@ -91,49 +106,56 @@ abbrev pub says : Set → ℕ
 says z = setSays (z .mode) (z .depth) (z .width) (z .height)
 
 module _ (z : Set) (len : ℕ) where
+  abbrev first : List ℕ
+  first = setChecks (z .mode) (z .depth) (z .width) (z .height)
+
+  abbrev last : List ℕ
+  last = 6 when ltb (roomIn z len) (z .stored) ∷ []
+
   pub held-first : (n : ℕ) → n ≡ says z → (n ≡ 0 → ⊥) → n ≡ heldSays z len
-  unfolding heldSays
-  held-first n e h = first-given n (6 when ltb (roomIn z len) (z .stored) ∷ []) e h
+  unfolding heldSays setSays
+  held-first n e h = checks-given first last n e h
 
   pub held-6 : says z ≡ 0 → roomIn z len < z .stored → 6 ≡ heldSays z len
-  unfolding heldSays
-  held-6 e h = rw (next-given (6 when ltb (roomIn z len) (z .stored) ∷ []) e, lt-ltb _ _ h)
+  unfolding heldSays setSays
+  held-6 e h = sym (checks-after first last e ∙ rw (lt-ltb (roomIn z len) (z .stored) h))
 
   pub held-0 : says z ≡ 0 → z .stored ≤ roomIn z len → 0 ≡ heldSays z len
-  unfolding heldSays
-  held-0 e h = rw (next-given (6 when ltb (roomIn z len) (z .stored) ∷ []) e, le-ltb _ _ h)
+  unfolding heldSays setSays
+  held-0 e h = sym (checks-after first last e ∙ rw (le-ltb (roomIn z len) (z .stored) h))
 
   pub held-says-set : heldSays z len ≡ 0 → says z ≡ 0
-  unfolding heldSays
-  held-says-set e = all-passed (heldChecks z len) e 0
+  unfolding heldSays setSays
+  held-says-set e = checks-first first last e
 
   pub held-set : heldSays z len ≡ 0 → IsSet (z .mode) (z .depth) (z .width) (z .height)
-  unfolding heldSays
-  held-set e = set-of (z .mode) (z .depth) (z .width) (z .height) (all-passed (heldChecks z len) e 0)
+  held-set e = set-of (z .mode) (z .depth) (z .width) (z .height) (held-says-set e)
 
   pub held-room : heldSays z len ≡ 0 → z .stored ≤ roomIn z len
   unfolding heldSays
-  held-room e = ltb-false (roomIn z len) (z .stored) (not-given 5 (ltb (roomIn z len) (z .stored)) (all-passed (heldChecks z len) e 1))
+  held-room e = ltb-false (roomIn z len) (z .stored) (not-given 5 (ltb (roomIn z len) (z .stored)) (all-passed last (checks-rest first last e) 0))
 
   pub look-first : (given n : ℕ) → n ≡ heldSays z len → (n ≡ 0 → ⊥) → n ≡ lookSays z len given
-  unfolding lookSays
-  look-first given n e h = first-given n (7 when not (eqb given (area z)) ∷ []) e h
+  unfolding lookSays heldSays
+  look-first given n e h = checks-given (heldChecks z len) (7 when not (eqb given (area z)) ∷ []) n e h
 
   pub look-7 : (given : ℕ) → heldSays z len ≡ 0 → (given ≡ area z → ⊥) → 7 ≡ lookSays z len given
-  unfolding lookSays
-  look-7 given e h = rw (next-given (7 when not (eqb given (area z)) ∷ []) e, ne-eqb _ _ h)
+  unfolding lookSays heldSays
+  look-7 given e h = sym (checks-after (heldChecks z len) (7 when not (eqb given (area z)) ∷ []) e ∙ rw (ne-eqb given (area z) h))
 
   pub look-0 : (given : ℕ) → heldSays z len ≡ 0 → given ≡ area z → 0 ≡ lookSays z len given
-  unfolding lookSays
-  look-0 given e h = rw (next-given (7 when not (eqb given (area z)) ∷ []) e, eq-eqb _ _ h)
+  unfolding lookSays heldSays
+  look-0 given e h = sym (checks-after (heldChecks z len) (7 when not (eqb given (area z)) ∷ []) e ∙ rw (eq-eqb given (area z) h))
 
 -- what a look-up and an add know
 pub looks-of : (z : Set) (store pixels : List ℕ) → lookSays z (length store) (length pixels) ≡ 0 → Looks z store pixels
-unfolding lookSays
+unfolding lookSays heldSays
 looks-of z store pixels e =
-    let passed : (k : ℕ) → getD (lookChecks z (length store) (length pixels)) k 0 ≡ 0 = all-passed (lookChecks z (length store) (length pixels)) e in
-    let set = held-set z (length store) (passed 0) in
-    let room = held-room z (length store) (passed 0) in
+    let seven = 7 when not (eqb (length pixels) (area z)) ∷ [] in
+    let held = checks-first (heldChecks z (length store)) seven e in
+    let set = held-set z (length store) held in
+    let room = held-room z (length store) held in
+    let given = all-passed seven (checks-rest (heldChecks z (length store)) seven e) 0 in
     record {
       deep = set .deep;
       some = set .some;
@@ -142,7 +164,7 @@ looks-of z store pixels e =
       small = set .small;
       inside = le-div-iff-mul-le {k = area z} (mul-pos (set .some) (set .tall)) .0 (le-trans room (room-whole (z .limit) (length store / area z)));
       few = le-trans room (room-most (z .limit) (length store / area z));
-      whole = eqb-true (length pixels) (area z) (not-false (eqb (length pixels) (area z)) (not-given 6 (not (eqb (length pixels) (area z))) (passed 1)));
+      whole = eqb-true (length pixels) (area z) (not-false (eqb (length pixels) (area z)) (not-given 6 (not (eqb (length pixels) (area z))) given));
     }
 
 -- ---- the checks of the two numbers
