@@ -10,10 +10,10 @@ use lib.ListN.{length, length-append}
 use lib.Seq.{length-sets}
 use borrow.Author.Tests.{leb-false}
 use Rattle.words.specs.Answers.{unless}
-use Rattle.words.proofs.Answers.{all-passed, not-given}
+use Rattle.words.proofs.Answers.{not-given}
 use Rattle.tileset.specs.Sets.{area, roomIn, lookSays, withCounts, emptied}
 use Rattle.tileset.specs.Finding.{cutTo, tilesIn, foundIn, Looks}
-use Rattle.tileset.specs.Adding.{discards, noRoom, endChecks, oneStored, oneDiscarded, atEnd, addSays, added, storeWith}
+use Rattle.tileset.specs.Adding.{discards, noRoom, oneStored, oneDiscarded, atEnd, addSays, added, storeWith}
 use Rattle.tileset.specs.Matched.{Apart}
 use Rattle.tileset.specs.Keeping.{keep, keepAll, repeats}
 use Rattle.tileset.specs.History.{setTiles, Call, addCall, resetCall, lookCall, Promised, setAfter, storeAfter, lastSet, lastStore, Calls}
@@ -22,8 +22,7 @@ use Rattle.tileset.specs.History.{Ask, toAdd, toReset, toLook, callOf, c
 use Rattle.tileset.specs.declared.Set.{Set}
 use Rattle.tileset.proofs.Says.{says, room-left, looks-of}
 use Rattle.tileset.proofs.Stores.{length-cut, length-tiles, tiles-put}
-use Rattle.tileset.proofs.AddingLaws.{says-first, add-says, added-is, with-is}
-use Rattle.tileset.proofs.Matched.{apart-none}
+use Rattle.tileset.proofs.AddingLaws.{add-looks, add-says, added-is, with-is}
 use Rattle.tileset.proofs.Keeping.{keep-append, kept-count, all-apart}
 
 pub count-tiles : (z : Set) (s : List ℕ) → length (setTiles z s) ≡ z .stored
@@ -48,7 +47,7 @@ module _ (z : Set) (s p : List ℕ) where
 
   module _ (done : addSays z s p ≡ 0) where
     fine : lookSays z (length s) (length p) ≡ 0
-    fine = all-passed (lookSays z (length s) (length p) ∷ endChecks z (foundIn z s p) (roomIn z (length s))) (sym (says-first z s p) ∙ done) 0
+    fine = add-looks z s p done
 
     pub known : Looks z s p
     known = looks-of z s p fine

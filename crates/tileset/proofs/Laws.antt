@@ -7,7 +7,8 @@ use Prim.Native.Nat.{ℕ, _+_, _-_, _*_, _/_, _<_, _≤_}
 use native.Mathlib.Omega.{arith}
 use lib.ListN.{length}
 use Rattle.words.proofs.Answers.{when-done, when-refused}
-use Rattle.tileset.specs.Sets.{noSet, emptied, answeredSet}
+use Rattle.tileset.specs.Sets.{newSet, noSet, emptied, answeredSet}
+use Rattle.tileset.specs.Finding.{tilesIn}
 use Rattle.tileset.specs.Adding.{Adds}
 use Rattle.tileset.specs.Matched.{Apart}
 use Rattle.tileset.specs.Keeping.{keepAll, repeats}
@@ -52,7 +53,7 @@ call-refused z s (lookCall p r) k some = (refl, refl)
 
 -- ---- "Over any adds since the last reset, store, state and settings else unchanged": over any calls, refused ones and look-ups among them
 
--- first is what is counted by at the start: `start z s` of any set, `read ..` of one that was read
+-- first is what is counted by at the start: `sinceStart z s` of any set, `sinceReset` of a new one, `sinceRead ..` of one that was read
 module _ (z : Set) (s : List ℕ) (first : Since) (from : first ≡ sinceStart z s) (cs : List Call) (k : Calls z s cs) where
   abbrev t : Since
   t = sinceCalls z first cs
@@ -91,6 +92,10 @@ since-append z t (x ∷ xs) ys = since-append z (sinceCall z t x) xs ys
 pub since-reset : (z : Set) (t : Since) (r : SetAnswer) (cs : List Call) → r .refusal ≡ 0 → sinceCalls z t (resetCall r ∷ cs) ≡ sinceCalls z sinceReset cs
 since-reset z t r cs e = ap (λ (x : Since). sinceCalls z x cs) (when-done (r .refusal) sinceReset t e)
 
+pub new-start : (m d w h : ℕ) (flips discarding : Bool) (limit : ℕ) (s : List ℕ) → sinceReset ≡ sinceStart (newSet m d w h flips discarding limit) s
+unfolding tilesIn
+new-start m d w h flips discarding limit s = refl
+
 -- "one possible answer and one content of lent memory": calls that kept their promises are those that what was asked leaves
 pub call-only : (z : Set) (s : List ℕ) (c : Call) → Promised z s c → c ≡ callOf z s (asked c)
 call-only z s (addCall p r after) k = rw (k .answer, k .lent)
@@ -105,7 +110,8 @@ calls-only z s (c ∷ cs) k =
 
 -- ---- a set that was read
 
-module _ (m d w h : ℕ) (flips : Bool) (bytes store : List ℕ) {r : SetAnswer} {after : List ℕ} (a : Reads m d w h flips bytes store r after) (done : r .refusal ≡ 0) where
+module _ (m d w h : ℕ) (flips : Bool) (bytes store : List ℕ) {r : SetAnswer} {after : List ℕ}
+    (a : Reads m d w h flips bytes store r after) (done : r .refusal ≡ 0) where
   pub read-set : r .set ≡ readSet m d w h flips (readCount m d w h (length bytes))
   read-set = adds-done a done .0
 

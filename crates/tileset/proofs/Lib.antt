@@ -4,15 +4,16 @@ pub mod NumberLaws
 pub mod Stores
 pub mod Search
 pub mod AddingLaws
+pub mod LowestAdding
 pub mod Matched
 pub mod Keeping
 pub mod History
 pub mod Adds
+pub mod TilesRead
 pub mod Laws
 pub mod WritingLaws
 pub mod Written
 pub mod ReadingLaws
 pub mod ReadBack
-pub mod TilesRead
 pub mod ReadThenWrite
 pub mod LowestCells

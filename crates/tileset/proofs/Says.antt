@@ -7,12 +7,12 @@ use Prim.Native.Nat.{ℕ, zero, suc, _+_, _*_, _/_, _<_, _≤_}
 use native.Mathlib.Nat.{suc-ne-zero, le-trans, le-div-iff-mul-le, mul-pos, suc-mul}
 use native.Mathlib.Omega.{arith}
 use lib.Dec.{ltb, eqb}
-use lib.ListN.{length, getD}
+use lib.ListN.{length}
 use borrow.Author.Tests.{lt-ltb, le-ltb, ltb-false, eq-eqb, ne-eqb, eqb-true, not-false}
 use Rattle.words.specs.Answers.{_when_, firstApplying}
 use Rattle.words.proofs.Answers.{all-passed, not-given, first-given, when-done, when-refused}
 use Rattle.words.proofs.Order.{first-append}
-use Rattle.tileset.specs.Sets.{area, setRoom, roomIn, setChecks, setSays, heldSays, lookChecks, lookSays, answeredSet}
+use Rattle.tileset.specs.Sets.{area, setRoom, roomIn, setChecks, setSays, heldSays, lookChecks, lookSays, answeredSet, heldChecks}
 use Rattle.tileset.specs.Finding.{noPlace, placeOf, placed, Looks}
 use Rattle.tileset.specs.Numbers.{nativeAnswer, logicalAnswer}
 use Rattle.tileset.specs.declared.Set.{Set}
@@ -136,24 +136,26 @@ module _ (z : Set) (len : ℕ) where
   held-room e = ltb-false (roomIn z len) (z .stored) (not-given 5 (ltb (roomIn z len) (z .stored)) (all-passed last (checks-rest first last e) 0))
 
   pub look-first : (given n : ℕ) → n ≡ heldSays z len → (n ≡ 0 → ⊥) → n ≡ lookSays z len given
-  unfolding lookSays
-  look-first given n e h = first-given n (7 when not (eqb given (area z)) ∷ []) e h
+  unfolding lookSays heldSays
+  look-first given n e h = checks-given (heldChecks z len) (7 when not (eqb given (area z)) ∷ []) n e h
 
   pub look-7 : (given : ℕ) → heldSays z len ≡ 0 → (given ≡ area z → ⊥) → 7 ≡ lookSays z len given
-  unfolding lookSays
-  look-7 given e h = rw (next-given (7 when not (eqb given (area z)) ∷ []) e, ne-eqb _ _ h)
+  unfolding lookSays heldSays
+  look-7 given e h = sym (checks-after (heldChecks z len) (7 when not (eqb given (area z)) ∷ []) e ∙ rw (ne-eqb given (area z) h))
 
   pub look-0 : (given : ℕ) → heldSays z len ≡ 0 → given ≡ area z → 0 ≡ lookSays z len given
-  unfolding lookSays
-  look-0 given e h = rw (next-given (7 when not (eqb given (area z)) ∷ []) e, eq-eqb _ _ h)
+  unfolding lookSays heldSays
+  look-0 given e h = sym (checks-after (heldChecks z len) (7 when not (eqb given (area z)) ∷ []) e ∙ rw (eq-eqb given (area z) h))
 
 -- what a look-up and an add know
 pub looks-of : (z : Set) (store pixels : List ℕ) → lookSays z (length store) (length pixels) ≡ 0 → Looks z store pixels
-unfolding lookSays
+unfolding lookSays heldSays
 looks-of z store pixels e =
-    let passed : (k : ℕ) → getD (lookChecks z (length store) (length pixels)) k 0 ≡ 0 = all-passed (lookChecks z (length store) (length pixels)) e in
-    let set = held-set z (length store) (passed 0) in
-    let room = held-room z (length store) (passed 0) in
+    let seven = 7 when not (eqb (length pixels) (area z)) ∷ [] in
+    let held = checks-first (heldChecks z (length store)) seven e in
+    let set = held-set z (length store) held in
+    let room = held-room z (length store) held in
+    let given = all-passed seven (checks-rest (heldChecks z (length store)) seven e) 0 in
     record {
       deep = set .deep;
       some = set .some;
@@ -162,5 +164,5 @@ looks-of z store pixels e =
       small = set .small;
       inside = le-div-iff-mul-le {k = area z} (mul-pos (set .some) (set .tall)) .0 (le-trans room (room-whole (z .limit) (length store / area z)));
       few = le-trans room (room-most (z .limit) (length store / area z));
-      whole = eqb-true (length pixels) (area z) (not-false (eqb (length pixels) (area z)) (not-given 6 (not (eqb (length pixels) (area z))) (passed 1)));
+      whole = eqb-true (length pixels) (area z) (not-false (eqb (length pixels) (area z)) (not-given 6 (not (eqb (length pixels) (area z))) given));
     }

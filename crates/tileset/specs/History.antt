@@ -74,7 +74,7 @@ sinceReset = record { stored = 0; discarded = 0; tiles = []; taken = [] }
 abbrev pub sinceStart : Set → List ℕ → Since
 sinceStart z store = record { stored = z .stored; discarded = z .discarded; tiles = setTiles z store; taken = [] }
 
--- "Its sum starts from the count read": a set that was read starts with the tiles read.
+-- "its sum starts from the count read": a set that was read starts with the tiles read.
 abbrev pub tilesRead : ℕ → ℕ → ℕ → ℕ → List ℕ → ℕ → List (List ℕ)
 tilesRead m d w h bytes zero = []
 tilesRead m d w h bytes (suc n) = tilesRead m d w h bytes n ++ tileIn m d w h bytes n ∷ []

@@ -3,8 +3,8 @@ pub mod Finding
 pub mod Matched
 pub mod Keeping
 pub mod Adding
+pub mod History
 pub mod Numbers
 pub mod Writing
 pub mod Reading
-pub mod History
 pub mod Inner

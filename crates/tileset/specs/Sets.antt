@@ -88,7 +88,7 @@ heldSays z len = firstApplying (heldChecks z len)
 
 -- A look-up, of a tile of so many pixels.
 abbrev pub lookChecks : Set → ℕ → ℕ → List ℕ
-lookChecks z len given = heldSays z len ∷ 7 when not (eqb given (area z)) ∷ []
+lookChecks z len given = heldChecks z len ++ 7 when not (eqb given (area z)) ∷ []
 
 unfoldable pub lookSays : Set → ℕ → ℕ → ℕ
 lookSays z len given = firstApplying (lookChecks z len given)

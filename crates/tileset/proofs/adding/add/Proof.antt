@@ -5,7 +5,7 @@ use denote.Ref.{now}
 use borrow.Author.Tests.{not-true, not-false}
 use borrow.Author.Needs.{needs}
 use Rattle.tileset.specs.Sets.{lookSays}
-use Rattle.tileset.specs.Finding.{isFound}
+use Rattle.tileset.specs.Finding.{foundIn, isFound}
 use Rattle.tileset.proofs.Says.{looks-of}
 use Rattle.tileset.proofs.AddingLaws.{discards-off, discards-new, discards-found, refuse-add, store-add, discard-add}
 use Rattle.tileset.proofs.adding.add.Statement.{statement}
@@ -34,7 +34,7 @@ returns-2 c =
     let first = off .before .before in
     let a = first .before .before .before .before .args in
     store-add (a .set) (now (a .store)) (now (a .pixels)) (fine first)
-    (discards-off (a .set) _ _ (not-true (a .set .discarding) (off .if2 .taken))) (c .before .before .append .ensures)
+    (discards-off (a .set) (foundIn (a .set) (now (a .store)) (now (a .pixels))) (not-true (a .set .discarding) (off .if2 .taken))) (c .before .before .append .ensures)
 
 found-in-requires : tie.Need-found-in-requires
 found-in-requires c κs = looks-of _ _ _ (fine (c .before .before .before))
@@ -58,7 +58,7 @@ returns-3 c =
     let first = looked .before .before .before .before in
     let a = first .before .before .before .before .args in
     store-add (a .set) (now (a .store)) (now (a .pixels)) (fine first)
-    (discards-new (a .set) _ _ (sym (looked .found-in .ensures) ∙ told .enum-told2 .given .1)) (c .before .before .append2 .ensures)
+    (discards-new (a .set) (foundIn (a .set) (now (a .store)) (now (a .pixels))) (sym (looked .found-in .ensures) ∙ told .enum-told2 .given .1)) (c .before .before .append2 .ensures)
 
 discard-requires : tie.Need-discard-requires
 discard-requires c κs = search needs
@@ -73,7 +73,8 @@ returns-4 c =
     let first = on .before .before in
     let a = first .before .before .before .before .args in
     discard-add (a .set) (now (a .store)) (now (a .pixels)) (fine first)
-    (discards-found (a .set) _ _ (not-false (a .set .discarding) (on .if2 .left)) (ap isFound (sym (looked .found-in .ensures) ∙ c .before .enum-told .given .1)))
+    (discards-found (a .set) (foundIn (a .set) (now (a .store)) (now (a .pixels))) (not-false (a .set .discarding) (on .if2 .left))
+    (ap isFound (sym (looked .found-in .ensures) ∙ c .before .enum-told .given .1)))
     (c .discard .ensures) refl
 
 pub add-spec : {M : Type 1} → statement M

@@ -44,7 +44,7 @@ room-requires c κs = search needs
 returns : tie.Need-returns
 returns c =
     let a = c .before .before .before .before .before .args in
-    store-full (a .set) (now (a .store)) (now (a .pixels)) (omega (arith, room-is (c .before), c .if1 .taken)) refl refl
+    store-full (a .set) (roomIn (a .set) (length (now (a .store)))) (now (a .store)) (now (a .pixels)) (omega (arith, room-is (c .before), c .if1 .taken)) refl refl
 
 mul-put-cut : tie.Need-mul-put-cut
 mul-put-cut c = omega (arith, fits c)
@@ -64,7 +64,7 @@ returns-2 c =
     let room = put .before .before .before in
     let start = room .before .before .before .before in
     let a = start .args in
-    store-done (a .set) (now (a .store)) (now (a .pixels)) (omega (arith, room-is room, put .before .before .if1 .left)) refl
+    store-done (a .set) (roomIn (a .set) (length (now (a .store)))) (now (a .store)) (now (a .pixels)) (omega (arith, room-is room, put .before .before .if1 .left)) refl
     (put .put-cut .ensures ∙ ap (λ (n : ℕ). sets (now (a .store)) (a .set .stored * n) (cutTo (a .set .depth) (now (a .pixels)))) (start .pre .whole))
 
 pub append-spec : {M : Type 1} → statement M
