@@ -117,8 +117,14 @@ module _ (z : Set) (store : List ℕ) (space : ℕ) (done : writeSays z store sp
   count = tileCount (z .mode) (z .width) (z .height) (z .stored)
 
   -- the stored tiles, and blank ones
+  abbrev front : List ℕ
+  front = take (z .stored * area z) store
+
+  abbrev blanks : List ℕ
+  blanks = replicate ((count - z .stored) * area z) 0
+
   abbrev tiles : List ℕ
-  tiles = take (z .stored * area z) store ++ replicate ((count - z .stored) * area z) 0
+  tiles = front ++ blanks
 
   held : heldSays z (length store) ≡ 0
   held = write-held z store space done
@@ -140,6 +146,18 @@ module _ (z : Set) (store : List ℕ) (space : ℕ) (done : writeSays z store sp
 
   stored-in : z .stored ≤ count
   stored-in = count-more sound other (z .stored)
+
+  front-long : length front ≡ z .stored * area z
+  front-long = length-take-le (z .stored * area z) store (held-inside z (length store) held)
+
+  -- the pixels of all tiles, and of those stored
+  all-is : (count - z .stored) * area z + z .stored * area z ≡ count * area z
+  all-is =
+      let whole : count - z .stored + z .stored ≡ count = omega (arith, stored-in) in
+      sym (add-mul (count - z .stored) (z .stored) (area z)) ∙ ap (λ (k : ℕ). k * area z) whole
+
+  tiles-long : length tiles ≡ count * area z
+  tiles-long = length-append front blanks ∙ omega (arith, front-long, length-replicate {A = ℕ} ((count - z .stored) * area z) 0, all-is)
 
   -- pixel (y, x) of tile t
   module _ (t y x : ℕ) (ht : t < count) (hy : y < z .height) (hx : x < z .width) where
@@ -172,52 +190,41 @@ module _ (z : Set) (store : List ℕ) (space : ℕ) (done : writeSays z store sp
     in-area : y * z .width + x < area z
     in-area = place-lt (z .width) (z .height) y x hy hx
 
-    front-long : length (take (z .stored * area z) store) ≡ z .stored * area z
-    front-long = length-take-le (z .stored * area z) store (held-inside z (length store) held)
-
     pixel-case : (b : Bool) → ltb t (z .stored) ≡ b → getD (cellPixels z store cell) j 0 ≡ getD tiles place 0
     pixel-case true e =
         let lt = ltb-true t (z .stored) e in
         let inside : place < z .stored * area z = omega (arith, in-area, item-inside (area z) (z .stored) t lt) in
         tile-pixel z store space done other t y x lt hy hx
         ∙ sym (getD-take (z .stored * area z) store place 0 inside)
-        ∙ sym (List·getD-append (take (z .stored * area z) store) (replicate ((count - z .stored) * area z) 0) 0 place (omega (arith, front-long)))
+        ∙ sym (List·getD-append front blanks 0 place (omega (arith, front-long)))
     pixel-case false e =
         let le = ltb-false t (z .stored) e in
         let from : z .stored * area z ≤ t * area z = mul-le-mul-right (area z) le in
         let tile-is = belongs-start r (z .width / 8) (z .height / 8) (grid-set sound other) t (y / 8) (x / 8) row-in column-in in
         let blank = cell-blank z store cell (omega (arith, tile-is)) in
         let past = place - z .stored * area z in
-        let whole : count - z .stored + z .stored ≡ count = omega (arith, stored-in) in
-        let inside : past < (count - z .stored) * area z =
-        omega (arith, in-area, item-inside (area z) count t ht, add-mul (count - z .stored) (z .stored) (area z), ap (λ (k : ℕ). k * area z) whole) in
-        let place-is : place ≡ length (take (z .stored * area z) store) + past = omega (arith, front-long) in
+        let inside : past < (count - z .stored) * area z = omega (arith, in-area, item-inside (area z) count t ht, all-is) in
+        let place-is : place ≡ length front + past = omega (arith, front-long) in
         ap (λ (l : List ℕ). getD l j 0) (sym blank)
         ∙ getD-replicate {A = ℕ} 64 j 0 0 (omega arith)
         ∙ sym (ap (λ (k : ℕ). getD tiles k 0) place-is
-        ∙ getD-append-add (take (z .stored * area z) store) (replicate ((count - z .stored) * area z) 0) past 0
+        ∙ getD-append-add front blanks past 0
         ∙ getD-replicate {A = ℕ} ((count - z .stored) * area z) past 0 0 inside)
 
     pixel-back : pixelIn (z .mode) (z .depth) (z .width) (z .height) bytes t y x ≡ getD tiles place 0
     pixel-back = unpacked-is ∙ pixel-case (ltb t (z .stored)) refl
 
-  tiles-long : length tiles ≡ count * area z
-  tiles-long =
-      let whole : count - z .stored + z .stored ≡ count = omega (arith, stored-in) in
-      let front : length (take (z .stored * area z) store) ≡ z .stored * area z = length-take-le (z .stored * area z) store (held-inside z (length store) held) in
-      length-append (take (z .stored * area z) store) (replicate ((count - z .stored) * area z) 0)
-      ∙ omega (arith, front, length-replicate {A = ℕ} ((count - z .stored) * area z) 0, add-mul (count - z .stored) (z .stored) (area z), ap (λ (k : ℕ). k * area z) whole)
-
   tile-back : (t : ℕ) → t < count → tileIn (z .mode) (z .depth) (z .width) (z .height) bytes t ≡ take (area z) (drop (t * area z) tiles)
   tile-back t ht =
-      let l = take (area z) (drop (t * area z) tiles) in
-      let long : length l ≡ area z = length-take-le (area z) (drop (t * area z) tiles) (omega (arith, length-drop (t * area z) tiles, tiles-long, item-inside (area z) count t ht)) in
-      rows-of (z .width) (z .height) l (pixelIn (z .mode) (z .depth) (z .width) (z .height) bytes t) long
+      let from = drop (t * area z) tiles in
+      let long = length-take-le (area z) from (omega (arith, length-drop (t * area z) tiles, tiles-long, item-inside (area z) count t ht)) in
+      rows-of (z .width) (z .height) (take (area z) from) (pixelIn (z .mode) (z .depth) (z .width) (z .height) bytes t) long
       (λ y x hy hx.
-      let place : t * area z + y * z .width + x ≡ t * area z + (y * z .width + x) = omega arith in
+      let j = y * z .width + x in
+      let place : t * area z + y * z .width + x ≡ t * area z + j = omega arith in
       pixel-back t y x ht hy hx
       ∙ ap (λ (k : ℕ). getD tiles k 0) place
-      ∙ sym (getD-take (area z) (drop (t * area z) tiles) (y * z .width + x) 0 (place-lt (z .width) (z .height) y x hy hx) ∙ getD-drop (t * area z) tiles (y * z .width + x) 0))
+      ∙ sym (getD-take (area z) from j 0 (place-lt (z .width) (z .height) y x hy hx) ∙ getD-drop (t * area z) tiles j 0))
 
   pixels-back : readPixels (z .mode) (z .depth) (z .width) (z .height) bytes ≡ tiles
   unfolding readPixels

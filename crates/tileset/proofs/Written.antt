@@ -2,7 +2,7 @@
 -- Assumes nothing.
 use mathlib.Core.Path.{_≡_, refl, sym, ap, _∙_, subst}
 use mathlib.Core.Bool.{Bool, true, false, cond, _&&_}
-use mathlib.Core.List.{List, [], _∷_}
+use mathlib.Core.List.{List}
 use Prim.Native.Nat.{ℕ, _+_, _-_, _*_, _/_, _%_, _^_, _<_, _≤_}
 use native.Mathlib.Nat.{add-mul, div-add-mod', zero-mul, mul-comm, mod-lt, mul-le-mul-right, le-div-iff-mul-le}
 use native.Mathlib.Omega.{arith}
@@ -11,7 +11,6 @@ use lib.ListN.{length, getD, take, drop, replicate, getD-replicate, length-drop}
 use lib.Pow.{pow-pos}
 use lib.Seq.{getD-take, getD-drop, length-take-le}
 use borrow.Author.Tests.{leb-false, ltb-true, eqb-true}
-use Rattle.words.specs.Loops.{each}
 use Rattle.words.proofs.Items.{item-at, item-inside, none-at}
 use Rattle.mode.specs.Table.{pce-sprite}
 use Rattle.tile.specs.Tile.{packingOf, packed, unpacked, tooLarge}

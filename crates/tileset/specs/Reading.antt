@@ -31,14 +31,14 @@ wholeTiles r h v c = wholeFrom r h v c 0 c
 abbrev pub readCount : ℕ → ℕ → ℕ → ℕ → ℕ → ℕ
 readCount m d w h len = wholeTiles (rowCells m) (w / 8) (h / 8) (len / (d * 8))
 
--- "Reading a pce_sprite set" (2), "depth not in the mode's row" (3), "tile size not allowed" (4).
+-- "mode number above 15" (1), "reading a pce_sprite set" (2), "depth not in the mode's row" (3), "tile size not allowed" (4).
 abbrev pub readableChecks : ℕ → ℕ → ℕ → ℕ → List ℕ
 readableChecks m d w h = 1 when ltb 15 m ∷ 2 when eqb m pce-sprite ∷ 3 when not (hasDepth m d) ∷ 4 when not (isSize m w h) ∷ []
 
 unfoldable pub readableSays : ℕ → ℕ → ℕ → ℕ → ℕ
 readableSays m d w h = firstApplying (readableChecks m d w h)
 
--- "Whole cells (else 7)." "A store too short for them is 11; more than 65,535 tiles: 12." Of so many bytes, into a store of so many pixels.
+-- "takes whole cells (else 7)". "A store too short for them is 11; more than 65,535 tiles: 12." Of so many bytes, into a store of so many pixels.
 abbrev pub readChecks : ℕ → ℕ → ℕ → ℕ → ℕ → ℕ → List ℕ
 readChecks m d w h len space =
     readableChecks m d w h

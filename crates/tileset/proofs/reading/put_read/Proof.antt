@@ -19,7 +19,8 @@ use Rattle.tileset.proofs.reading.put_read.Statement.{statement}
 use Rattle.tileset.proofs.reading.put_read.Tie as tie
 
 abbrev Inv-loop : tie.InvT-loop
-Inv-loop mode depth width height bytes count store₀ cells₀ w h n₀ store cells n = (n ≤ count) × ((length cells ≡ 4096) × Filled (tileIn mode depth width height bytes) store₀ 0 n store)
+Inv-loop mode depth width height bytes count store₀ cells₀ w h n₀ store cells n =
+    (n ≤ count) × ((length cells ≡ 4096) × Filled (tileIn mode depth width height bytes) store₀ 0 n store)
 
 abbrev μ-loop : tie.MeasureT-loop
 μ-loop mode depth width height bytes count store₀ cells₀ w h n₀ store cells n = count - n

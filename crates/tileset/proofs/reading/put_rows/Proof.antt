@@ -18,10 +18,14 @@ Inv-loop cells width height out₀ at y₀ out y = (y ≤ height) × Filled (row
 abbrev μ-loop : tie.MeasureT-loop
 μ-loop cells width height out₀ at y₀ out y = height - y
 
-here : (c : tie.In-loop Inv-loop μ-loop) → let a = c .before .before .before .before .args in a .at + c .before .loop .y * a .width + a .width ≤ length (now (a .out))
-here c =
-    let a = c .before .before .before .before .args in
-    omega (arith, item-inside (a .width) (a .height) (c .before .loop .y) (c .loop-test .taken), mul-comm (a .width) (a .height), c .before .before .before .before .pre .space)
+module _ (c : tie.In-loop Inv-loop μ-loop) where
+  abbrev s : tie.Start Inv-loop μ-loop
+  s = c .before .before .before .before
+
+  here : s .args .at + c .before .loop .y * s .args .width + s .args .width ≤ length (now (s .args .out))
+  here =
+      let a = s .args in
+      omega (arith, item-inside (a .width) (a .height) (c .before .loop .y) (c .loop-test .taken), mul-comm (a .width) (a .height), s .pre .space)
 
 loop-holds : tie.Need-loop-holds Inv-loop μ-loop
 loop-holds c = (search needs, filled-none _ _ _)
@@ -34,11 +38,12 @@ add-put-row c = omega (arith, here (c .before))
 
 put-row-requires : tie.Need-put-row-requires Inv-loop μ-loop
 put-row-requires c κs =
-    let s = c .before .before .before .before .before in
+    let l = c .before in
+    let a = s l .args in
     record {
-      across = s .pre .across;
-      inside = rows-inside (s .args .width) (s .args .height) (c .before .before .loop .y) (length (now (s .args .cells))) (s .pre .down) (s .pre .inside) (c .before .loop-test .taken);
-      space = omega (arith, here (c .before), c .before .before .loop .inv .1 .long);
+      across = s l .pre .across;
+      inside = rows-inside (a .width) (a .height) (l .before .loop .y) (length (now (a .cells))) (s l .pre .down) (s l .pre .inside) (l .loop-test .taken);
+      space = omega (arith, here l, l .before .loop .inv .1 .long);
     }
 
 add-y : tie.Need-add-y Inv-loop μ-loop
@@ -49,9 +54,9 @@ loop-less c = search needs
 
 loop-again : tie.Need-loop-again Inv-loop μ-loop
 loop-again c =
-    let l = c .before .before .before .before .before in
-    let a = l .before .before .before .args in
-    (search needs, filled-more (a .width) (row-length (a .width) (now (a .cells))) (l .loop .inv .1) (c .before .before .put-row .ensures))
+    let l = c .before .before .before .before in
+    let a = s l .args in
+    (search needs, filled-more (a .width) (row-length (a .width) (now (a .cells))) (l .before .loop .inv .1) (c .before .before .put-row .ensures))
 
 same-length : tie.Need-same-length Inv-loop μ-loop
 same-length c = search needs

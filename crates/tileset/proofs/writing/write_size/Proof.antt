@@ -31,17 +31,23 @@ module _ (c : tie.Start) where
   cells-few : {count : ℕ} → count ≤ 8390400 → count * (z .depth * 8) ≤ 8390400 * 64
   cells-few le = mul-le-mul {m₂ = 64} le (omega (arith, sound .deep))
 
+abbrev sprites : tie.Then1 → tie.Start
+sprites c = c .before .before .before
+
+abbrev cells : tie.After-cell-count → tie.Start
+cells c = c .before .before .before .before
+
 mul-size : tie.Need-mul-size
-mul-size c = omega (arith, sound (c .before .before .before .before) .small)
+mul-size c = omega (arith, sound (sprites (c .before)) .small)
 
 mul-size-2 : tie.Need-mul-size-2
-mul-size-2 c = omega (arith, bits-few (c .before .before .before .before .before))
+mul-size-2 c = omega (arith, bits-few (sprites (c .before .before)))
 
 mul-result : tie.Need-mul-result
-mul-result c = omega (arith, bytes-few (c .before .before .before .before .before .before))
+mul-result c = omega (arith, bytes-few (sprites (c .before .before .before)))
 
 cast-result : tie.Need-cast-result
-cast-result c = omega (arith, bytes-few (c .before .before .before .before .before .before))
+cast-result c = omega (arith, bytes-few (sprites (c .before .before .before)))
 
 returns : tie.Need-returns
 unfolding writeSize
@@ -53,19 +59,19 @@ cell-count-requires c κs =
     (grid-set (sound s) (c .if1 .left), s .pre .1)
 
 mul-result-2 : tie.Need-mul-result-2
-mul-result-2 c = omega (arith, sound (c .before .before .before .before .before) .deep)
+mul-result-2 c = omega (arith, sound (cells (c .before)) .deep)
 
 mul-result-3 : tie.Need-mul-result-3
-mul-result-3 c = omega (arith, cells-few (c .before .before .before .before .before) (c .before .cell-count .ensures .1))
+mul-result-3 c = omega (arith, cells-few (cells (c .before)) (c .before .cell-count .ensures .1))
 
 cast-result-2 : tie.Need-cast-result-2
-cast-result-2 c = omega (arith, cells-few (c .before .before .before .before .before) (c .before .cell-count .ensures .1))
+cast-result-2 c = omega (arith, cells-few (cells (c .before)) (c .before .cell-count .ensures .1))
 
 returns-2 : tie.Need-returns-2
 unfolding writeSize
 returns-2 c =
-    let s = c .before .before .before .before .before in
-    rw (ne-eqb _ pce-sprite (c .before .before .if1 .left)) (ap (λ (k : ℕ). k * (s .args .set .depth * 8)) (c .before .cell-count .ensures .0))
+    let k = c .before in
+    rw (ne-eqb _ pce-sprite (k .before .if1 .left)) (ap (λ (n : ℕ). n * (z (cells k) .depth * 8)) (k .cell-count .ensures .0))
 
 pub write-size-spec : {M : Type 1} → statement M
 write-size-spec =
