@@ -24,7 +24,7 @@ use Rattle.tile.specs.declared.Packing.{Packing}
 use Rattle.tile.proofs.Native.{Native, fitting}
 use Rattle.tile.proofs.RoundTrip.{length-spread}
 use Rattle.flip.proofs.Group.{place-lt, place-row, place-column}
-use Rattle.tileset.specs.Sets.{isSize, setSays, setRoom, heldSays, noSet}
+use Rattle.tileset.specs.Sets.{isSize, setSays, roomUnder, setRoom, heldSays, noSet}
 use Rattle.tileset.specs.Numbers.{rowCells, startsAt, firstCell, Grid}
 use Rattle.tileset.specs.Reading.{lastCell, wholeTiles, readCount, readableSays, readChecks, readSays, readSet, cellIn, pixelIn, rowIn, tileIn, readPixels, cellsIn, placeIn, rowOf, Reads}
 use Rattle.tileset.specs.declared.Set.{Set}
@@ -174,7 +174,7 @@ module _ (m d w h : ℕ) where
 
       -- what was read is a set in its store
       pub read-held : (flips : Bool) → heldSays (readSet m d w h flips count) space ≡ 0
-      unfolding setRoom
+      unfolding setRoom roomUnder
       read-held flips =
           let s = set-of m d w h (readable-says-set read-readable) in
           let whole : count ≤ space / (w * h) = le-div-iff-mul-le {k = w * h} (mul-pos (s .some) (s .tall)) .1 read-space in

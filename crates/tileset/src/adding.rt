@@ -5,7 +5,7 @@ use crate::SetAnswer;
 use crate::finding::found_in;
 use crate::finding::put_cut;
 use crate::sets::look_says;
-use crate::sets::room;
+use crate::sets::set_room;
 ghost use mathlib.Core.Path.{_≡_};
 ghost use Prim.Native.Nat.{_*_, _/_};
 ghost use lib.Dec.{leb, eqb};
@@ -23,7 +23,7 @@ fn append(set: Set, store: &mut [u8], pixels: &[u8]) -> SetAnswer
 {
     let n = pixels.len();
     let count = set.stored as usize;
-    if room(set.limit, store.len() / n) <= count {
+    if set_room(set.limit, store.len() / n) <= count {
         return SetAnswer { refusal: 12, set };
     }
     put_cut(set.depth, pixels, store, count * n);
