@@ -2,7 +2,7 @@
 -- Assumes nothing.
 use mathlib.Core.Path.{_≡_, refl, sym, ap, _∙_, subst}
 use mathlib.Core.Bool.{Bool, true, false, cond, _||_}
-use mathlib.Core.List.{List, [], _∷_, _++_}
+use mathlib.Core.List.{List, [], _∷_}
 use Prim.Native.Nat.{ℕ, zero, suc, _+_, _*_, _-_, _%_, _<_, _≤_}
 use native.Mathlib.Nat.{add-zero, add-suc, suc-add, zero-add, le-refl}
 use native.Mathlib.Omega.{arith}
@@ -15,20 +15,16 @@ use Rattle.flip.specs.Matching.{matchFlip, isUnder, matches}
 use Rattle.flip.specs.declared.Match.{Match}
 use Rattle.flip.specs.declared.Match.the-variants.{Under, Never}
 use Rattle.flip.proofs.Equivalence.{matches-trans, not-both}
-use Rattle.tileset.specs.Finding.{logical, foundOr, findIn, tilesFrom, tilesIn, lookUp, isFound}
+use Rattle.tileset.specs.Finding.{logical, foundOr, tilesFrom, tilesIn, lookUp, isFound}
 use Rattle.tileset.specs.Matched.{matchesSome}
 use Rattle.tileset.specs.declared.Found.{Found}
 use Rattle.tileset.specs.declared.Found.the-variants.{At, Nothing}
 use Rattle.tileset.proofs.Matched.{look-some}
+use Rattle.tileset.proofs.Search.{orElse, look-append}
 use Rattle.tileset.proofs.Stores.{length-tiles}
 use Rattle.index.specs.Key.{key}
 use Rattle.index.specs.Index.{bucketOf, Skip, Gap, Indexed, linkOf, LooksAt, Searches}
 use Rattle.index.proofs.Keys.{matches-key}
-
--- the answer of the first tiles, and else that of the others
-abbrev pub orElse : Found → Found → Found
-orElse (At k f) r = At k f
-orElse Nothing r = r
 
 module _ (on : Bool) (tiles : List (List ℕ)) (keys heads next : List ℕ) (x : Indexed on tiles keys heads next) (b k : ℕ) (p : k < length tiles) where
   link-case : (q : Bool) → eqb (getD keys k 0 % 4096) b ≡ q → (cond q (getD next k 0) k ≤ k) × Gap on tiles b (cond q (getD next k 0) k) k
@@ -61,20 +57,6 @@ some-where on w h (a ∷ rest) t e = where-case on w h a rest t (matches on w h 
 -- ---- a look-up from the last tile to the first
 
 module _ (on : Bool) (t : List ℕ) where
-  or-last : (m : Match) (k : ℕ) (r s q : Found) → s ≡ orElse r q → foundOr m k s ≡ orElse (foundOr m k r) q
-  or-last (Under f) k r s q e = refl
-  or-last Never k r s q e = e
-
-  find-last : (k : ℕ) (xs : List (List ℕ)) (a : List ℕ) → findIn on 8 8 t k (xs ++ a ∷ []) ≡ orElse (findIn on 8 8 t k xs) (foundOr (matchFlip on 8 8 a t) (k + length xs) Nothing)
-  find-last k [] a = rw (add-zero k)
-  find-last k (y ∷ xs) a =
-      or-last (matchFlip on 8 8 y t) k (findIn on 8 8 t (suc k) xs) (findIn on 8 8 t (suc k) (xs ++ a ∷ [])) (foundOr (matchFlip on 8 8 a t) (k + suc (length xs)) Nothing)
-      (find-last (suc k) xs a ∙ ap (λ (n : ℕ). orElse (findIn on 8 8 t (suc k) xs) (foundOr (matchFlip on 8 8 a t) n Nothing)) (suc-add k (length xs) ∙ sym (add-suc k (length xs))))
-
-  look-last : (xs : List (List ℕ)) (a : List ℕ) → lookUp on 8 8 (xs ++ a ∷ []) t ≡ orElse (lookUp on 8 8 xs t) (foundOr (matchFlip on 8 8 a t) (length xs) Nothing)
-  unfolding lookUp
-  look-last xs a = find-last 0 xs a ∙ ap (λ (n : ℕ). orElse (findIn on 8 8 t 0 xs) (foundOr (matchFlip on 8 8 a t) n Nothing)) (zero-add (length xs))
-
   or-over : (q : Found) (m : Match) (k : ℕ) (r : Found) → orElse (orElse q (foundOr m k Nothing)) r ≡ orElse q (foundOr m k r)
   or-over (At j f) m k r = refl
   or-over Nothing (Under f) k r = refl
@@ -101,7 +83,7 @@ module _ (on : Bool) (t : List ℕ) where
     unfolding below
     over k r p =
         ap (λ (ts : List (List ℕ)). orElse (lookUp on 8 8 ts t) r) (take-suc tiles k [] p)
-        ∙ ap (λ (q : Found). orElse q r) (look-last (take k tiles) (getD tiles k []) ∙ ap (λ (n : ℕ). orElse (lookUp on 8 8 (take k tiles) t) (foundOr (matchFlip on 8 8 (getD tiles k []) t) n Nothing)) (length-take-le k tiles (omega arith)))
+        ∙ ap (λ (q : Found). orElse q r) (look-append on 8 8 t (take k tiles) (getD tiles k [] ∷ []) ∙ ap (λ (n : ℕ). orElse (lookUp on 8 8 (take k tiles) t) (foundOr (matchFlip on 8 8 (getD tiles k []) t) n Nothing)) (length-take-le k tiles (omega arith)))
         ∙ or-over (lookUp on 8 8 (take k tiles) t) (matchFlip on 8 8 (getD tiles k []) t) k r
 
     found-or : (q r s : Found) → isFound q ≡ true → orElse q r ≡ orElse q s

@@ -31,7 +31,8 @@ use Rattle.picture.specs.Entries.{entryFor}
 use Rattle.picture.specs.Converting.{places, pictureTiles, storedOf, needOf, discardedOf, tileBytes, foundAt, mapBytes}
 use Rattle.picture.specs.Inner.{IsPicture}
 use Rattle.picture.specs.declared.Settings.{Settings}
-use Rattle.tileset.proofs.Keeping.{look-told, kept-need, need-discarded}
+use Rattle.tileset.proofs.Keeping.{kept-need, need-discarded}
+use Rattle.tileset.proofs.Search.{look-told}
 use Rattle.picture.proofs.Kept.{cutTiles-at, found-here, found-final, length-cutTiles}
 use Rattle.picture.proofs.Checks.{native-tile}
 

@@ -33,7 +33,7 @@ use Rattle.picture.specs.Inner.{askedSays, IsPicture}
 use Rattle.picture.specs.declared.Settings.{Settings}
 use Rattle.picture.proofs.Checks.{IsSize, tile-8, native-tile, size-passed, asked-sized, asked-picture, asked-map, room-named, room-bytes, convert-passed}
 use Rattle.picture.proofs.Cells.{number-at, cutTile-at, pixelAt-back, placeOver-lt, tileOver-lt}
-use Rattle.tileset.proofs.Keeping.{look-told}
+use Rattle.tileset.proofs.Search.{look-told}
 use Rattle.picture.proofs.Kept.{kept-sizes, kept-small}
 use Rattle.picture.proofs.Converted.{packed-size, entry-size, tile-is, is-found, stored-need, found-fits, tile-bytes-length, map-bytes-length}
 use Rattle.picture.proofs.RedrawChecks.{redraw-0}

@@ -4,92 +4,23 @@ use mathlib.Core.Path.{_≡_, refl, sym, ap, _∙_, subst}
 use mathlib.Core.Bool.{Bool, true, false, not, cond, _&&_}
 use mathlib.Core.List.{List, [], _∷_, _++_, append-nil, append-assoc}
 use mathlib.Core.Logic.{⊎-elim}
-use Prim.Native.Nat.{ℕ, suc, _+_, _*_, _<_, _≤_}
+use Prim.Native.Nat.{ℕ, suc, _+_, _*_, _<_, _≤_, zero}
 use native.Mathlib.Nat.{eq-or-lt-of-le, not-suc-le-zero, add-zero, add-suc, suc-add, zero-add, le-trans}
 use native.Mathlib.Omega.{arith}
 use lib.ListN.{length, getD, length-append, List·getD-append}
 use lib.Seq.{getD-append-seam}
 use Rattle.words.specs.Bytes.{bit}
 use Rattle.words.proofs.Loops.{either}
-use Rattle.flip.specs.Flips.{flip, flipped}
-use Rattle.flip.specs.Matching.{matchFlip}
+use Rattle.flip.specs.Flips.{flip}
 use Rattle.flip.specs.declared.Flip.{Flip}
-use Rattle.flip.specs.declared.Match.{Match}
-use Rattle.flip.specs.declared.Match.the-variants.{Under, Never}
-use Rattle.flip.proofs.Group.{flipped-none}
-use Rattle.flip.proofs.Rows.{eq-same}
-use Rattle.flip.proofs.Equivalence.{Takes, Told, match-told, not-both}
-use Rattle.tileset.specs.Finding.{logical, foundOr, findIn, lookUp, isFound}
+use Rattle.tileset.specs.Finding.{logical, lookUp, isFound}
 use Rattle.tileset.specs.Matched.{matchesSome, Apart}
 use Rattle.tileset.specs.Keeping.{keep, keepAll, kept, fresh, again, need, discarded, repeats}
 use Rattle.tileset.specs.declared.Logical.{Logical}
 use Rattle.tileset.specs.declared.Found.{Found}
 use Rattle.tileset.specs.declared.Found.the-variants.{At, Nothing}
+use Rattle.tileset.proofs.Search.{look-more, look-last, look-told}
 use Rattle.tileset.proofs.Matched.{look-some, Alike, alike-kept, alike-gone, apart-none, apart-more}
-
--- ---- a look-up among some tiles
-
-not-at : {P : Type 0} {k : Logical} {f : Flip} → At k f ≡ Nothing → P
-not-at e = not-both (sym (ap isFound e))
-
-module _ (on : Bool) (w h : ℕ) (t : List ℕ) where
-  or-more : (m : Match) (k : ℕ) (r s : Found) → (isFound r ≡ true → s ≡ r) → isFound (foundOr m k r) ≡ true → foundOr m k s ≡ foundOr m k r
-  or-more (Under f) k r s e p = refl
-  or-more Never k r s e p = e p
-
-  find-more : (k : ℕ) (xs ys : List (List ℕ)) → isFound (findIn on w h t k xs) ≡ true → findIn on w h t k (xs ++ ys) ≡ findIn on w h t k xs
-  find-more k [] ys p = not-both p
-  find-more k (a ∷ xs) ys p =
-      or-more (matchFlip on w h a t) k (findIn on w h t (suc k) xs) (findIn on w h t (suc k) (xs ++ ys)) (find-more (suc k) xs ys) p
-
-  -- what is found is found again among more tiles
-  pub look-more : (xs ys : List (List ℕ)) → isFound (lookUp on w h xs t) ≡ true → lookUp on w h (xs ++ ys) t ≡ lookUp on w h xs t
-  unfolding lookUp
-  look-more xs ys p = find-more 0 xs ys p
-
-  module _ (z : 0 < w) (len : length t ≡ w * h) where
-    pub match-self : matchFlip on w h t t ≡ Under (flip false false)
-    unfolding matchFlip
-    match-self = simp (eq-same (flipped (flip false false) w h t) t (flipped-none w h t z len))
-
-    or-last : (m : Match) (k : ℕ) (r s : Found) (last : Found) → foundOr m k r ≡ Nothing → (r ≡ Nothing → s ≡ last) → foundOr m k s ≡ last
-    or-last (Under f) k r s last e next = not-at e
-    or-last Never k r s last e next = next e
-
-    find-last : (k : ℕ) (xs : List (List ℕ)) → findIn on w h t k xs ≡ Nothing → findIn on w h t k (xs ++ t ∷ []) ≡ At (logical (k + length xs)) (flip false false)
-    find-last k [] e = rw (match-self, add-zero k)
-    find-last k (a ∷ xs) e =
-        or-last (matchFlip on w h a t) k (findIn on w h t (suc k) xs) (findIn on w h t (suc k) (xs ++ t ∷ [])) (At (logical (k + suc (length xs))) (flip false false)) e
-        (λ n. find-last (suc k) xs n ∙ ap (λ (i : ℕ). At (logical i) (flip false false)) (suc-add k (length xs) ∙ sym (add-suc k (length xs))))
-
-    -- a tile that is not found, put at the end, is found there
-    pub look-last : (xs : List (List ℕ)) → lookUp on w h xs t ≡ Nothing → lookUp on w h (xs ++ t ∷ []) t ≡ At (logical (length xs)) (flip false false)
-    unfolding lookUp
-    look-last xs e = find-last 0 xs e ∙ ap (λ (i : ℕ). At (logical i) (flip false false)) (zero-add (length xs))
-
-  -- what an answer tells: an allowed flip takes the tile at the place to the tile that was asked for
-  abbrev Stands : ℕ → List (List ℕ) → Found → Type 0
-  Stands k xs (At j f) = (i : ℕ) × (j .0 ≡ k + i) × (i < length xs) × Takes on w h (getD xs i []) t f
-  Stands k xs Nothing = Unit {0}
-
-  next-stands : (a : List ℕ) (k : ℕ) (xs : List (List ℕ)) (r : Found) → Stands (suc k) xs r → Stands k (a ∷ xs) r
-  next-stands a k xs (At j f) s = (suc (s .0), omega (arith, s .1), omega (arith, s .2), s .3)
-  next-stands a k xs Nothing s = tt
-
-  or-stands : (a : List ℕ) (k : ℕ) (xs : List (List ℕ)) (m : Match) (r : Found) → Told on w h a t m → Stands (suc k) xs r → Stands k (a ∷ xs) (foundOr m k r)
-  or-stands a k xs (Under f) r told s = (0, omega arith, omega arith, told)
-  or-stands a k xs Never r told s = next-stands a k xs r s
-
-  find-stands : (k : ℕ) (xs : List (List ℕ)) → Stands k xs (findIn on w h t k xs)
-  find-stands k [] = tt
-  find-stands k (a ∷ xs) = or-stands a k xs (matchFlip on w h a t) (findIn on w h t (suc k) xs) (match-told on w h a t) (find-stands (suc k) xs)
-
-  pub look-told : (xs : List (List ℕ)) {k : Logical} {f : Flip} → lookUp on w h xs t ≡ At k f → (k .0 < length xs) × Takes on w h (getD xs (k .0) []) t f
-  unfolding lookUp
-  look-told xs {k} {f} e =
-      let s : Stands 0 xs (At k f) = subst (Stands 0 xs) e (find-stands 0 xs) in
-      let q : k .0 ≡ s .0 = omega (arith, s .1) in
-      (omega (arith, s .2), subst (λ (i : ℕ). Takes on w h (getD xs i []) t f) (sym q) (s .3))
 
 -- ---- one tile more
 

@@ -15,7 +15,7 @@ use Rattle.flip.specs.Matching.{matchFlip, isUnder, matches}
 use Rattle.flip.specs.declared.Match.{Match}
 use Rattle.flip.specs.declared.Match.the-variants.{Under, Never}
 use Rattle.flip.proofs.Equivalence.{matches-trans}
-use Rattle.tileset.specs.Finding.{foundOr, findIn, lookUp, isFound}
+use Rattle.tileset.specs.Finding.{foundOr, firstFound, lookUp, isFound}
 use Rattle.tileset.specs.Matched.{matchesSome, Apart}
 use Rattle.tileset.specs.declared.Found.{Found}
 
@@ -24,10 +24,10 @@ found-or (Under f) k r = refl
 found-or Never k r = refl
 
 module _ (on : Bool) (w h : ℕ) where
-  found-some : (tile : List ℕ) (k : ℕ) (tiles : List (List ℕ)) → isFound (findIn on w h tile k tiles) ≡ matchesSome on w h tiles tile
+  found-some : (tile : List ℕ) (k : ℕ) (tiles : List (List ℕ)) → isFound (firstFound (λ a. matchFlip on w h a tile) k tiles) ≡ matchesSome on w h tiles tile
   found-some tile k [] = refl
   found-some tile k (a ∷ rest) =
-      found-or (matchFlip on w h a tile) k (findIn on w h tile (suc k) rest)
+      found-or (matchFlip on w h a tile) k (firstFound (λ a. matchFlip on w h a tile) (suc k) rest)
       ∙ ap (λ (b : Bool). matches on w h a tile || b) (found-some tile (suc k) rest)
 
   -- a look-up finds a tile exactly where one of the tiles matches it

@@ -23,9 +23,9 @@ use Rattle.tile.specs.declared.Packing.{Packing}
 use Rattle.tile.proofs.Native.{Native, fitting}
 use Rattle.tile.proofs.RoundTrip.{length-spread, spread-lt}
 use Rattle.flip.proofs.Group.{place-lt, place-row, place-column}
-use Rattle.tileset.specs.Sets.{isSize, setSays, setRoom, heldSays, noSet}
-use Rattle.tileset.specs.Numbers.{rowCells, startsAt, firstCell}
-use Rattle.tileset.specs.Reading.{lastCell, wholeFrom, wholeTiles, readCount, readableChecks, readableSays, readSays, readSet, cellIn, pixelIn, rowIn, tileIn, readPixels, Reads}
+use Rattle.tileset.specs.Sets.{isSize, setSays, setRoom, heldSays, noSet, roomUnder}
+use Rattle.tileset.specs.Numbers.{rowCells, startsAt, firstCell, Grid}
+use Rattle.tileset.specs.Reading.{lastCell, wholeFrom, wholeTiles, readCount, readableChecks, readableSays, readSays, readSet, cellIn, pixelIn, rowIn, tileIn, readPixels, Reads, readChecks, cellsIn, placeIn, rowOf}
 use Rattle.tileset.specs.Inner.{Grid, cellsIn, placeIn, rowOf}
 use Rattle.tileset.specs.declared.Set.{Set}
 use Rattle.tileset.specs.declared.SetAnswer.{SetAnswer}
@@ -228,7 +228,7 @@ module _ (m d w h : ℕ) where
 
       -- what was read is a set in its store
       pub read-held : (flips : Bool) → heldSays (readSet m d w h flips count) space ≡ 0
-      unfolding setRoom
+      unfolding setRoom roomUnder
       read-held flips =
           let s = read-set-of in
           let whole : count ≤ space / (w * h) = le-div-iff-mul-le {k = w * h} (mul-pos (s .some) (s .tall)) .1 read-space in

@@ -3,16 +3,16 @@
 use mathlib.Core.Path.{_≡_, refl, sym, ap, _∙_}
 use mathlib.Core.Bool.{Bool, true, false, not, cond}
 use mathlib.Core.List.{List, [], _∷_, _++_}
-use Prim.Native.Nat.{ℕ, zero, suc, _+_, _*_, _/_, _<_, _≤_}
-use native.Mathlib.Nat.{suc-ne-zero, le-trans, le-div-iff-mul-le, mul-pos, suc-mul}
+use Prim.Native.Nat.{ℕ, zero, suc, _+_, _*_, _/_, _<_, _≤_, min}
+use native.Mathlib.Nat.{suc-ne-zero, le-trans, le-div-iff-mul-le, mul-pos, suc-mul, le-refl}
 use native.Mathlib.Omega.{arith}
 use lib.Dec.{ltb, eqb}
-use lib.ListN.{length}
-use borrow.Author.Tests.{lt-ltb, le-ltb, ltb-false, eq-eqb, ne-eqb, eqb-true, not-false}
+use lib.ListN.{length, getD}
+use borrow.Author.Tests.{lt-ltb, le-ltb, ltb-false, eq-eqb, ne-eqb, eqb-true, not-false, eqb-false}
 use Rattle.words.specs.Answers.{_when_, firstApplying}
 use Rattle.words.proofs.Answers.{all-passed, not-given, first-given, when-done, when-refused}
 use Rattle.words.proofs.Order.{first-append}
-use Rattle.tileset.specs.Sets.{area, setRoom, roomIn, setChecks, setSays, heldSays, lookChecks, lookSays, answeredSet, heldChecks}
+use Rattle.tileset.specs.Sets.{area, setRoom, roomIn, setChecks, setSays, heldSays, lookChecks, lookSays, answeredSet, heldChecks, roomUnder}
 use Rattle.tileset.specs.Finding.{noPlace, placeOf, placed, Looks}
 use Rattle.tileset.specs.Numbers.{nativeAnswer, logicalAnswer}
 use Rattle.tileset.specs.declared.Set.{Set}
@@ -82,17 +82,56 @@ done-logical {k} tile e = ap (λ (i : ℕ). logicalRaw i tile) (sym e) ∙ ap (l
 
 -- ---- room
 
-cond-le : (b : Bool) (x y k : ℕ) → x ≤ k → y ≤ k → cond b x y ≤ k
-cond-le true x y k p q = p
-cond-le false x y k p q = q
+abbrev pub AtMost : ℕ → List ℕ → Type 0
+AtMost n [] = Unit {0}
+AtMost n (bound ∷ bounds) = (n ≤ bound) × AtMost n bounds
+
+-- n is at most each of the bounds, and at most the limit if it is not 0
+pub record InRoom (n limit most : ℕ) (bounds : List ℕ) : Type 0 where
+  pub first : n ≤ most
+  pub others : AtMost n bounds
+  pub limited : (limit ≡ 0 → ⊥) → n ≤ limit
+
+-- one more bound may be taken into the first
+pub room-taken : (limit most bound : ℕ) (bounds : List ℕ) → roomUnder limit most (bound ∷ bounds) ≡ roomUnder limit (min most bound) bounds
+unfolding roomUnder
+room-taken limit most bound bounds = refl
+
+module _ {n limit : ℕ} where
+  to-room : {most : ℕ} (b : Bool) → eqb limit 0 ≡ b → n ≤ most → ((limit ≡ 0 → ⊥) → n ≤ limit) → n ≤ cond b most (min most limit)
+  to-room true e first limited = first
+  to-room false e first limited = omega (arith, limited (eqb-false limit 0 e))
+
+  from-room : {most : ℕ} (b : Bool) → eqb limit 0 ≡ b → n ≤ cond b most (min most limit) → InRoom n limit most []
+  from-room true e h = record { first = h; others = tt; limited = λ z. absurd (z (eqb-true limit 0 e)) }
+  from-room false e h = record { first = omega arith; others = tt; limited = λ z. omega arith }
+
+  -- what is at most all of them is at most the room
+  pub room-of : {most : ℕ} (bounds : List ℕ) → InRoom n limit most bounds → n ≤ roomUnder limit most bounds
+  unfolding roomUnder
+  room-of [] h = to-room (eqb limit 0) refl (h .first) (h .limited)
+  room-of (bound ∷ bounds) h =
+      room-of bounds (record { first = omega (arith, h .first, h .others .0); others = h .others .1; limited = h .limited })
+
+  -- and what is at most the room is at most each of them
+  pub in-room : {most : ℕ} (bounds : List ℕ) → n ≤ roomUnder limit most bounds → InRoom n limit most bounds
+  unfolding roomUnder
+  in-room [] h = from-room (eqb limit 0) refl h
+  in-room (bound ∷ bounds) h =
+      let r = in-room bounds h in
+      record { first = omega (arith, r .first); others = (omega (arith, r .first), r .others); limited = r .limited }
+
+-- the room is at most each of its bounds, and at most the limit if it is not 0
+pub room-within : (limit most : ℕ) (bounds : List ℕ) → InRoom (roomUnder limit most bounds) limit most bounds
+room-within limit most bounds = in-room bounds (le-refl (roomUnder limit most bounds))
 
 pub room-whole : (limit whole : ℕ) → setRoom limit whole ≤ whole
 unfolding setRoom
-room-whole limit whole = cond-le (eqb limit 0) _ _ whole (omega arith) (omega arith)
+room-whole limit whole = room-within limit 65535 (whole ∷ []) .others .0
 
 pub room-most : (limit whole : ℕ) → setRoom limit whole ≤ 65535
 unfolding setRoom
-room-most limit whole = cond-le (eqb limit 0) _ _ 65535 (omega arith) (omega arith)
+room-most limit whole = room-within limit 65535 (whole ∷ []) .first
 
 -- a set with room has room for one tile more in its store
 pub room-left : (limit len n count : ℕ) → 0 < n → count < setRoom limit (len / n) → count * n + n ≤ len

@@ -28,7 +28,7 @@ tilesFrom n store k (suc count) = take n (drop (k * n) store) ∷ tilesFrom n st
 unfoldable pub tilesIn : ℕ → List ℕ → ℕ → List (List ℕ)
 tilesIn n store count = tilesFrom n store 0 count
 
--- "The first stored tile": of some tiles, the first having place k, the first that matches. Its place is a logical number.
+-- "The first stored tile": of some tiles, the first having place k, the first that a test of one tile finds, under a flip. Its place is a logical number.
 abbrev pub logical : ℕ → Logical
 logical n = record { 0 = n }
 
@@ -36,12 +36,12 @@ abbrev pub foundOr : Match → ℕ → Found → Found
 foundOr (Under f) k rest = At (logical k) f
 foundOr Never k rest = rest
 
-abbrev pub findIn : Bool → ℕ → ℕ → List ℕ → ℕ → List (List ℕ) → Found
-findIn on w h tile k [] = Nothing
-findIn on w h tile k (a ∷ rest) = foundOr (matchFlip on w h a tile) k (findIn on w h tile (suc k) rest)
+abbrev pub firstFound : (List ℕ → Match) → ℕ → List (List ℕ) → Found
+firstFound test k [] = Nothing
+firstFound test k (a ∷ rest) = foundOr (test a) k (firstFound test (suc k) rest)
 
 unfoldable pub lookUp : Bool → ℕ → ℕ → List (List ℕ) → List ℕ → Found
-lookUp on w h tiles tile = findIn on w h tile 0 tiles
+lookUp on w h tiles tile = firstFound (λ a. matchFlip on w h a tile) 0 tiles
 
 -- What a look-up of pixels finds in a set.
 unfoldable pub foundIn : Set → List ℕ → List ℕ → Found

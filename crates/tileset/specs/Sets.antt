@@ -69,12 +69,17 @@ noSet = newSet 0 0 0 0 false false 0
 abbrev pub answeredSet : ℕ → Set → Set → SetAnswer
 answeredSet n done refused = record { refusal = n; set = unless n done refused }
 
+-- How many tiles fit: the least of some bounds, one at least, and of the limit if it is not 0.
+unfoldable pub roomUnder : ℕ → ℕ → List ℕ → ℕ
+roomUnder limit most [] = cond (eqb limit 0) most (min most limit)
+roomUnder limit most (bound ∷ bounds) = roomUnder limit (min most bound) bounds
+
 -- "Room is the least of 65,535, the store's whole tiles, and the limit if not 0."
+unfoldable pub setRoom : ℕ → ℕ → ℕ
+setRoom limit whole = roomUnder limit 65535 (whole ∷ [])
+
 abbrev pub area : Set → ℕ
 area z = z .width * z .height
-
-unfoldable pub setRoom : ℕ → ℕ → ℕ
-setRoom limit whole = cond (eqb limit 0) (min 65535 whole) (min (min 65535 whole) limit)
 
 abbrev pub roomIn : Set → ℕ → ℕ
 roomIn z len = setRoom (z .limit) (len / area z)

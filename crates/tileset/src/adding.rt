@@ -5,8 +5,8 @@ use crate::SetAnswer;
 use crate::finding::found_in;
 use crate::finding::put_cut;
 use crate::sets::look_says;
-use crate::sets::room;
 use words::refusal;
+use crate::sets::set_room;
 ghost use mathlib.Core.Path.{_≡_};
 ghost use lib.ListN.{length};
 ghost use Rattle.tileset.specs.Sets.{roomIn};
@@ -20,7 +20,7 @@ fn append(set: Set, store: &mut [u8], pixels: &[u8]) -> SetAnswer
 {
     let n = pixels.len();
     let count = set.stored as usize;
-    if room(set.limit, store.len() / n) <= count {
+    if set_room(set.limit, store.len() / n) <= count {
         return SetAnswer {
             refusal: refusal::ROOM,
             set,

@@ -3,7 +3,8 @@ use crate::Set;
 use crate::SetAnswer;
 use mode::Mode;
 ghost use mathlib.Core.Path.{_≡_};
-ghost use Rattle.tileset.specs.Sets.{isSide, isWidth, isHeight, setSays, setRoom, heldSays, lookSays, noSet, emptied, newSet, answeredSet};
+ghost use mathlib.Core.List.{[]};
+ghost use Rattle.tileset.specs.Sets.{isSide, isWidth, isHeight, setSays, roomUnder, setRoom, heldSays, lookSays, noSet, emptied, newSet, answeredSet};
 
 fn is_side(n: u32) -> bool
     ensures { λ r. ⌜ r ≡ isSide n ⌝ }
@@ -128,15 +129,21 @@ pub fn set_reset(set: Set) -> SetAnswer
     }
 }
 
-// How many tiles a set may have, given how many whole tiles its store has.
-pub fn room(limit: u32, whole: usize) -> usize
-    ensures { λ r. ⌜ r ≡ setRoom limit whole ⌝ }
+// How many tiles fit: at most so many, and at most the limit if it is not 0.
+pub fn room(limit: u32, most: usize) -> usize
+    ensures { λ r. ⌜ r ≡ roomUnder limit most [] ⌝ }
 {
-    let most = words::least(65535, whole);
     if limit == 0 {
         return most;
     }
     words::least(most, limit as usize)
+}
+
+// How many tiles a set may have, given how many whole tiles its store has.
+pub fn set_room(limit: u32, whole: usize) -> usize
+    ensures { λ r. ⌜ r ≡ setRoom limit whole ⌝ }
+{
+    room(limit, words::least(65535, whole))
 }
 
 // Whether the state is a set's, in a store of so many pixels.
@@ -148,7 +155,7 @@ pub fn held_says(set: Set, len: usize) -> u32
         return refusal;
     }
     let n = (set.width * set.height) as usize;
-    if room(set.limit, len / n) < set.stored as usize {
+    if set_room(set.limit, len / n) < set.stored as usize {
         return 6;
     }
     0

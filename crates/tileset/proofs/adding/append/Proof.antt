@@ -15,11 +15,11 @@ use Rattle.tileset.proofs.adding.append.Statement.{statement}
 use Rattle.tileset.proofs.adding.append.Tie as tie
 
 -- the room is the set's, and there is some for the tile
-room-is : (c : tie.After-room) → let a = c .before .before .before .before .args in c .room .result ≡ roomIn (a .set) (length (now (a .store)))
+room-is : (c : tie.After-set-room) → let a = c .before .before .before .before .args in c .set-room .result ≡ roomIn (a .set) (length (now (a .store)))
 room-is c =
     let start = c .before .before .before .before in
     let a = start .args in
-    c .room .ensures ∙ ap (λ (n : ℕ). setRoom (a .set .limit) (length (now (a .store)) / n)) (start .pre .whole)
+    c .set-room .ensures ∙ ap (λ (n : ℕ). setRoom (a .set .limit) (length (now (a .store)) / n)) (start .pre .whole)
 
 some-pixels : (c : tie.Start) → 0 < length (now (c .args .pixels))
 some-pixels c = rw (c .pre .whole) (mul-pos (c .pre .some) (c .pre .tall))
@@ -30,16 +30,16 @@ fits c =
     let start = c .before .before .before .before .before .before in
     let a = start .args in
     room-left (a .set .limit) (length (now (a .store))) (length (now (a .pixels))) (a .set .stored) (some-pixels start)
-    (omega (arith, c .before .before .room .ensures, c .before .if1 .left))
+    (omega (arith, c .before .before .set-room .ensures, c .before .if1 .left))
 
 cast-count : tie.Need-cast-count
 cast-count c = search needs
 
-div-room : tie.Need-div-room
-div-room c = some-pixels (c .before .before .before)
+div-set-room : tie.Need-div-set-room
+div-set-room c = some-pixels (c .before .before .before)
 
-room-requires : tie.Need-room-requires
-room-requires c κs = search needs
+set-room-requires : tie.Need-set-room-requires
+set-room-requires c κs = search needs
 
 returns : tie.Need-returns
 returns c =
@@ -72,8 +72,8 @@ append-spec =
     tie.close
     (tie.spec
     cast-count
-    div-room
-    room-requires
+    div-set-room
+    set-room-requires
     returns
     mul-put-cut
     put-cut-requires

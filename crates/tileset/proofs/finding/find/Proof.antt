@@ -9,12 +9,12 @@ use Rattle.words.proofs.Items.{item-inside}
 use Rattle.flip.specs.Matching.{matchFlip}
 use Rattle.flip.specs.declared.Match.the-variants.{Under, Never}
 use Rattle.tileset.specs.Finding.{tilesIn, lookUp}
-use Rattle.tileset.proofs.Search.{lookFrom, look-start, look-miss, look-hit, look-end}
+use Rattle.tileset.proofs.Search.{matching, foundFrom, look-start, found-miss, found-hit, found-end}
 use Rattle.tileset.proofs.finding.find.Statement.{statement}
 use Rattle.tileset.proofs.finding.find.Tie as tie
 
 abbrev Inv-loop : tie.InvT-loop
-Inv-loop store count tile width height flips n k₀ k = (n ≡ width * height) × ((k ≤ count) × (lookUp flips width height (tilesIn (width * height) store count) tile ≡ lookFrom flips width height (width * height) store tile count k))
+Inv-loop store count tile width height flips n k₀ k = (n ≡ width * height) × ((k ≤ count) × (lookUp flips width height (tilesIn (width * height) store count) tile ≡ foundFrom (matching flips width height tile) (width * height) store count k))
 
 abbrev μ-loop : tie.MeasureT-loop
 μ-loop store count tile width height flips n k₀ k = count - k
@@ -59,7 +59,7 @@ loop-again c =
     let lp = c .before .before .before .before .loop in
     let n = a .width * a .height in
     let e : matchFlip (a .flips) (a .width) (a .height) (take n (drop (lp .k * n) (now (a .store)))) (now (a .tile)) ≡ Never = cc in
-    (refl, (search needs, lp .inv .1 .1 ∙ look-miss _ _ _ _ _ _ _ (lp .k) (c .before .before .before .loop-test .taken) e))
+    (refl, (search needs, lp .inv .1 .1 ∙ found-miss _ _ _ _ (lp .k) (c .before .before .before .loop-test .taken) e))
 
 returns : tie.Need-returns Inv-loop μ-loop
 returns c =
@@ -67,10 +67,10 @@ returns c =
     let lp = c .before .before .before .before .before .loop in
     let n = a .width * a .height in
     let e : matchFlip (a .flips) (a .width) (a .height) (take n (drop (lp .k * n) (now (a .store)))) (now (a .tile)) ≡ Under (c .before .f .given .0 .0) = cc in
-    sym (lp .inv .1 .1 ∙ look-hit _ _ _ _ _ _ _ (lp .k) _ (c .before .before .before .before .loop-test .taken) e)
+    sym (lp .inv .1 .1 ∙ found-hit _ _ _ _ (lp .k) _ (c .before .before .before .before .loop-test .taken) e)
 
 returns-2 : tie.Need-returns-2 Inv-loop μ-loop
-returns-2 c = sym (c .before .loop .inv .1 .1 ∙ look-end _ _ _ _ _ _ _ (c .before .loop .k) (c .loop-test .left))
+returns-2 c = sym (c .before .loop .inv .1 .1 ∙ found-end _ _ _ _ (c .before .loop .k) (c .loop-test .left))
 
 pub find-spec : {M : Type 1} → statement M
 find-spec =

@@ -23,20 +23,20 @@ mul-n c = omega (arith, sound (c .before) .small)
 cast-n : tie.Need-cast-n
 cast-n c = omega (arith, sound (c .before) .small)
 
-div-room : tie.Need-div-room
-div-room c = mul-pos (sound (c .before) .some) (sound (c .before) .tall)
+div-set-room : tie.Need-div-set-room
+div-set-room c = mul-pos (sound (c .before) .some) (sound (c .before) .tall)
 
-room-requires : tie.Need-room-requires
-room-requires c κs = search needs
+set-room-requires : tie.Need-set-room-requires
+set-room-requires c κs = search needs
 
 cast-if2 : tie.Need-cast-if2
 cast-if2 c = search needs
 
 returns-2 : tie.Need-returns-2
-returns-2 c = held-6 (c .before .before .before .before .before .before .args .set) _ (sym (c .before .before .before .before .before .set-says .ensures) ∙ c .before .before .before .before .if1 .left) (omega (arith, c .before .before .room .ensures, c .if2 .taken))
+returns-2 c = held-6 (c .before .before .before .before .before .before .args .set) _ (sym (c .before .before .before .before .before .set-says .ensures) ∙ c .before .before .before .before .if1 .left) (omega (arith, c .before .before .set-room .ensures, c .if2 .taken))
 
 returns-3 : tie.Need-returns-3
-returns-3 c = held-0 (c .before .before .before .before .before .before .args .set) _ (sym (c .before .before .before .before .before .set-says .ensures) ∙ c .before .before .before .before .if1 .left) (omega (arith, c .before .before .room .ensures, c .if2 .left))
+returns-3 c = held-0 (c .before .before .before .before .before .before .args .set) _ (sym (c .before .before .before .before .before .set-says .ensures) ∙ c .before .before .before .before .if1 .left) (omega (arith, c .before .before .set-room .ensures, c .if2 .left))
 
 pub held-says-spec : {M : Type 1} → statement M
 held-says-spec =
@@ -46,8 +46,8 @@ held-says-spec =
     returns
     mul-n
     cast-n
-    div-room
-    room-requires
+    div-set-room
+    set-room-requires
     cast-if2
     returns-2
     returns-3)
