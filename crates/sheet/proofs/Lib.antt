@@ -6,3 +6,4 @@ pub mod Telling
 pub mod Trips
 pub mod Exact
 pub mod Fitting
+pub mod Refusals
