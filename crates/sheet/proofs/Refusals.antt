@@ -5,6 +5,7 @@ use mathlib.Core.Path.{_≡_, refl, sym, ap, _∙_, subst}
 use mathlib.Core.Bool.{Bool, false, not, _&&_}
 use mathlib.Core.List.{List, [], _∷_}
 use native.Mathlib.Nat.{mul-le-mul}
+use native.Mathlib.Omega.{arith}
 use lib.Dec.{T, leb, ltb, eqb, leb→le}
 use lib.ListN.{length, drop}
 use borrow.Author.Tests.{le-ltb, eqb-false}
@@ -18,10 +19,11 @@ use Rattle.mapentry.specs.declared.Misfit.the-variants.{Tile, Palette, Flip, Pr
 use Rattle.picture.specs.declared.Settings.{Settings}
 use Rattle.picture.specs.Converting.{places, isSpan, sizeChecks, sizeSays, pictureRoom, needOf, convertChecks, convertSays}
 use Rattle.picture.specs.Entries.{entryAs}
-use Rattle.sheet.specs.Sheet.{sheetIn, Writable, IsSheet}
-use Rattle.sheet.specs.Program.{tileRoom, mapRoom, pictureSays, sheetNumber, numberOf, textOf, Ran}
+use Rattle.sheet.specs.Sheet.{sheetLines, sideMost, valuesOf, sheetIn, Within, IsSheet}
+use Rattle.sheet.specs.Program.{tileSpace, mapSpace, outSpace, pictureSays, sheetNumber, numberOf, textOf, Ran}
 use Rattle.sheet.specs.declared.Sheet.{Sheet}
 use Rattle.sheet.specs.declared.Sheet.the-variants.{Read, Wrong}
+use Rattle.sheet.proofs.Lines.{bounded, area-small}
 use Rattle.sheet.proofs.Exact.{sheets-read, only-sheets}
 use Rattle.sheet.proofs.Fitting.{run-answers}
 
@@ -61,22 +63,23 @@ size-among m d columns rows =
     (when-among 1 (ltb 15 m) tt, (when-among 2 (eqb m pce-sprite) tt, (when-among 3 (not (hasDepth m d)) tt, (when-among 4 (not (isSpan columns && isSpan rows)) tt, tt))))
 
 -- a sheet's map has 32 x 32 entries of two bytes at most
-map-fits : (z : Settings) → Writable z → places z * row (z .mode) .entry ≤ mapRoom
+map-fits : (z : Settings) → Within sheetLines (valuesOf z) → places z * row (z .mode) .entry ≤ mapSpace
 unfolding row
 map-fits z w =
-    let entry : row (z .mode) .entry ≤ 2 = leb→le (row (z .mode) .entry) 2 (all-at 16 (λ m. leb (row m .entry) 2) tt (z .mode) (w .known)) in
-    mul-le-mul {n₂ = 1024} (mul-le-mul {n₂ = 32} (w .columns) (w .rows)) entry
+    let b = bounded z w in
+    let entry : row (z .mode) .entry ≤ 2 = leb→le (row (z .mode) .entry) 2 (all-at 16 (λ m. leb (row m .entry) 2) tt (z .mode) (omega (arith, b .known))) in
+    mul-le-mul {n₂ = sideMost * sideMost} (area-small b) entry
 
-says-among : (z : Settings) (pixels : List ℕ) → Writable z → Among (pictureSays z pixels)
+says-among : (z : Settings) (pixels : List ℕ) → Within sheetLines (valuesOf z) → Among (pictureSays z pixels)
 unfolding Among convertSays
 says-among z pixels w =
-    let enough : 11 when ltb mapRoom (places z * row (z .mode) .entry) ≡ 0 = rw (le-ltb mapRoom (places z * row (z .mode) .entry) (map-fits z w)) in
+    let enough : 11 when ltb mapSpace (places z * row (z .mode) .entry) ≡ 0 = rw (le-ltb mapSpace (places z * row (z .mode) .entry) (map-fits z w)) in
     let size = size-among (z .mode) (z .depth) (z .columns) (z .rows) in
     let flips = when-among 5 (z .flip && eqb (row (z .mode) .flips) 0) tt in
     let whole = when-among 7 (not (eqb (length pixels) (64 * places z))) tt in
     let fits = misfit-among (misfitOf (z .mode) (entryAs 0 (z .palette) false false)) in
-    let room = when-among 12 (ltb (pictureRoom z tileRoom) (needOf z pixels)) tt in
-    first-among (convertChecks z pixels tileRoom mapRoom) (size, (flips, (whole, (fits, (subst Among (sym enough) tt, (room, tt))))))
+    let room = when-among 12 (ltb (pictureRoom z tileSpace) (needOf z pixels)) tt in
+    first-among (convertChecks z pixels tileSpace mapSpace) (size, (flips, (whole, (fits, (subst Among (sym enough) tt, (room, tt))))))
 
 -- "Program only, before all others: settings lines not as below": 14 exactly where no settings and pixels make the input a sheet
 abbrev pub NoSheet : List ℕ → Type 0
@@ -107,7 +110,7 @@ module _ (input : List ℕ) where
   never-11 told = told-case input (sheetIn input) refl told
 
   -- and so the answer, where the text fits
-  module _ {before : List ℕ} {r : Written} {after : List ℕ} (ran : Ran (numberOf input) (textOf input) before r after) (space : 67840 ≤ length before) where
+  module _ {before : List ℕ} {r : Written} {after : List ℕ} (ran : Ran (numberOf input) (textOf input) before r after) (space : outSpace ≤ length before) where
     answered : r .refusal ≡ numberOf input
     answered = ap (λ (w : Written). w .refusal) (run-answers input before space ran)
 

@@ -18,7 +18,7 @@ use Rattle.picture.specs.Converting.{convertSays, answerOf, tileBytes, mapBytes
 use Rattle.sheet.specs.Sheet.{sheetIn}
 use Rattle.sheet.specs.Report.{reportText, refusedText}
 use Rattle.sheet.specs.Inner.{Reportable}
-use Rattle.sheet.specs.Program.{tileRoom, mapRoom, pictureSays, pictureText, pictureTells, numberOf, textOf, fully, Ran}
+use Rattle.sheet.specs.Program.{tileSpace, mapSpace, pictureSays, pictureText, pictureTells, numberOf, textOf, fully, Ran}
 use Rattle.sheet.specs.declared.Sheet.the-variants.{Read, Wrong}
 use Rattle.sheet.proofs.Reading.{rest-all}
 
@@ -31,15 +31,15 @@ module _ (bytes before after : List ℕ) (n : ℕ) (size : n ≡ length bytes) (
   inside = rw (size, e) (omega (arith, length-append bytes (drop (length bytes) before)))
 
 -- the program's own buffers
-pub rooms : (z : Settings) (pixels : List ℕ) {tiles map : ℕ} → tiles ≡ tileRoom → map ≡ mapRoom → convertSays z pixels tiles map ≡ pictureSays z pixels
-rooms z pixels e f = rw (e, f)
+pub spaces : (z : Settings) (pixels : List ℕ) {tiles map : ℕ} → tiles ≡ tileSpace → map ≡ mapSpace → convertSays z pixels tiles map ≡ pictureSays z pixels
+spaces z pixels e f = rw (e, f)
 
-pub reportable : (z : Settings) (p : Picture) (tiles map : List ℕ) → z .mode < 16 → length tiles ≡ 65536 → length map ≡ 2048 → p .«tile_bytes» ≤ length tiles → p .«map_bytes» ≤ length map → Reportable z p (take (p .«tile_bytes») tiles) (take (p .«map_bytes») map)
+pub reportable : (z : Settings) (p : Picture) (tiles map : List ℕ) → z .mode < 16 → length tiles ≡ tileSpace → length map ≡ mapSpace → p .«tile_bytes» ≤ length tiles → p .«map_bytes» ≤ length map → Reportable z p (take (p .«tile_bytes») tiles) (take (p .«map_bytes») map)
 reportable z p tiles map known t m ht hm =
     record {
       tellable = record { known = known; tileLength = omega arith; mapLength = omega arith };
-      tileRoom = simp length-take (omega arith);
-      mapRoom = simp length-take (omega arith);
+      tilesFit = simp length-take (omega arith);
+      mapFits = simp length-take (omega arith);
     }
 
 -- n is the number that the conversion says
@@ -100,9 +100,9 @@ module _ (input before : List ℕ) {r : Written} {after : List ℕ} where
   ran-wrong e ran = rw e ran
 
 -- what is written lies inside the lent bytes
-inside-case : (n len room : ℕ) (b : Bool) (r : Written) → ltb room len ≡ b → r ≡ cond b (written 11 0) (fully n len) → r .written ≤ room
-inside-case n len room true r t e = rw e (omega arith)
-inside-case n len room false r t e = rw e (ltb-false room len t)
+inside-case : (n len space : ℕ) (b : Bool) (r : Written) → ltb space len ≡ b → r ≡ cond b (written 11 0) (fully n len) → r .written ≤ space
+inside-case n len space true r t e = rw e (omega arith)
+inside-case n len space false r t e = rw e (ltb-false space len t)
 
 module _ {n : ℕ} {text before : List ℕ} {r : Written} {after : List ℕ} (p : Ran n text before r after) where
   pub ran-inside : r .written ≤ length before

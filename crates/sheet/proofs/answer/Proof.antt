@@ -2,7 +2,8 @@
 use native.Mathlib.Omega.{arith}
 use Prim.Native.Nat.{ℕ}
 use lib.ListN.{length-take, length-replicate}
-use Rattle.sheet.proofs.Telling.{rooms, reportable, tiles-inside, map-inside, refused-picture, told-picture}
+use Rattle.sheet.specs.Program.{tileSpace, mapSpace}
+use Rattle.sheet.proofs.Telling.{spaces, reportable, tiles-inside, map-inside, refused-picture, told-picture}
 use borrow.Author.Needs.{needs}
 use Rattle.sheet.proofs.answer.Statement.{statement}
 use Rattle.sheet.proofs.answer.Tie as tie
@@ -23,7 +24,7 @@ same-length : tie.Need-same-length
 same-length c = search needs
 
 returns : tie.Need-returns
-returns c = refused-picture _ _ _ _ _ _ _ _ (c .before .before .before .before .before .before .before .before .convert .ensures) (rooms _ _ (length-replicate {A = ℕ} 65536 0) (length-replicate {A = ℕ} 2048 0)) (c .before .before .before .before .if1 .taken) (c .before .before .refuse .ensures)
+returns c = refused-picture _ _ _ _ _ _ _ _ (c .before .before .before .before .before .before .before .before .convert .ensures) (spaces _ _ (length-replicate {A = ℕ} tileSpace 0) (length-replicate {A = ℕ} mapSpace 0)) (c .before .before .before .before .if1 .taken) (c .before .before .refuse .ensures)
 
 array-share-prefix-tiles : tie.Need-array-share-prefix-tiles
 array-share-prefix-tiles c = tiles-inside _ _ _ _ _ _ _ _ (c .before .before .before .before .convert .ensures) (c .if1 .left)
@@ -47,7 +48,7 @@ same-length-2 : tie.Need-same-length-2
 same-length-2 c = search needs
 
 returns-2 : tie.Need-returns-2
-returns-2 c = told-picture _ _ _ _ _ _ _ _ (c .before .before .before .before .before .before .before .before .before .before .convert .ensures) (rooms _ _ (length-replicate {A = ℕ} 65536 0) (length-replicate {A = ℕ} 2048 0)) (c .before .before .before .before .before .before .if1 .left) (c .before .before .report .ensures)
+returns-2 c = told-picture _ _ _ _ _ _ _ _ (c .before .before .before .before .before .before .before .before .before .before .convert .ensures) (spaces _ _ (length-replicate {A = ℕ} tileSpace 0) (length-replicate {A = ℕ} mapSpace 0)) (c .before .before .before .before .before .before .if1 .left) (c .before .before .report .ensures)
 
 pub answer-spec : {M : Type 1} → statement M
 answer-spec =

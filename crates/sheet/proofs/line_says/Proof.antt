@@ -17,7 +17,7 @@ sub-n c = search needs
 returns : tie.Need-returns
 returns c =
     let key = c .before .before .key .ensures in
-    sym (line-short (c .before .before .before .before .args .k) (c .before .before .before .before .args .line .now) _ _ (key .content) (held-length key) (c .if1 .taken))
+    sym (line-short (c .before .before .before .before .args .line) (c .before .before .before .before .args .bytes .now) _ _ (key .content) (held-length key) (c .if1 .taken))
 
 slice-aggregate-same-bytes : tie.Need-slice-aggregate-same-bytes
 slice-aggregate-same-bytes c = simp length-take (omega arith)
@@ -50,12 +50,12 @@ returns-2 : tie.Need-returns-2
 returns-2 c =
     let key = c .before .before .before .before .before .before .before .before .before .key .ensures in
     c .text-says .ensures
-    ∙ sym (line-keyed (c .before .before .before .before .before .before .before .before .before .before .before .args .k) (c .before .before .before .before .before .before .before .before .before .before .before .args .line .now) _ _ (key .content) (held-length key) (sym (c .before .before .before .same-bytes .ensures) ∙ c .before .before .if2 .taken))
+    ∙ sym (line-keyed (c .before .before .before .before .before .before .before .before .before .before .before .args .line) (c .before .before .before .before .before .before .before .before .before .before .before .args .bytes .now) _ _ (key .content) (held-length key) (sym (c .before .before .before .same-bytes .ensures) ∙ c .before .before .if2 .taken))
 
 returns-3 : tie.Need-returns-3
 returns-3 c =
     let key = c .before .before .before .before .before .before .before .key .ensures in
-    sym (line-other (c .before .before .before .before .before .before .before .before .before .args .k) (c .before .before .before .before .before .before .before .before .before .args .line .now) _ _ (key .content) (held-length key) (sym (c .before .same-bytes .ensures) ∙ c .if2 .left))
+    sym (line-other (c .before .before .before .before .before .before .before .before .before .args .line) (c .before .before .before .before .before .before .before .before .before .args .bytes .now) _ _ (key .content) (held-length key) (sym (c .before .same-bytes .ensures) ∙ c .if2 .left))
 
 pub line-says-spec : {M : Type 1} → statement M
 line-says-spec =

@@ -1,5 +1,5 @@
 -- The text, or 11 where it does not fit.
-use Rattle.sheet.proofs.Writing.{no-room, told}
+use Rattle.sheet.proofs.Writing.{no-space, told}
 use borrow.Author.Needs.{needs}
 use Rattle.sheet.proofs.tell.Statement.{statement}
 use Rattle.sheet.proofs.tell.Tie as tie
@@ -8,7 +8,7 @@ refused-requires : tie.Need-refused-requires
 refused-requires c κs = search needs
 
 returns : tie.Need-returns
-returns c = no-room _ _ _ (c .before .if1 .taken) (c .refused .ensures)
+returns c = no-space _ _ _ (c .before .if1 .taken) (c .refused .ensures)
 
 put-requires : tie.Need-put-requires
 put-requires c κs = search needs
