@@ -111,7 +111,7 @@ skip-right false x v e = e
 record Digit (b : ℕ) (bs : List ℕ) (n v : ℕ) : Type 0 where
   low : 48 ≤ b
   high : b ≤ 57
-  room : n * 10 + (b - 48) ≤ largest
+  fits : n * 10 + (b - 48) ≤ largest
   more : digitsFrom bs (n * 10 + (b - 48)) ≡ Value v
 
 digit-was : (b : ℕ) (bs : List ℕ) (n v : ℕ) → digitsFrom (b ∷ bs) n ≡ Value v → Digit b bs n v
@@ -125,7 +125,7 @@ digit-was b bs n v e =
     record {
       low = ltb-false b 48 (skip-left (ltb b 48) second v e);
       high = ltb-false 57 b (skip-left (ltb 57 b) third v e₂);
-      room = ltb-false largest (n * 10 + (b - 48)) (skip-left (ltb largest (n * 10 + (b - 48))) last v e₃);
+      fits = ltb-false largest (n * 10 + (b - 48)) (skip-left (ltb largest (n * 10 + (b - 48))) last v e₃);
       more = skip-right (ltb largest (n * 10 + (b - 48))) last v e₃;
     }
 
@@ -146,7 +146,7 @@ digits-only [] p j n v some small fits e told =
 digits-only (b ∷ bs) p j n v some small fits e told =
     let d = digit-was b bs n v told in
     sym (append-snoc p b bs)
-    ∙ digits-only bs (p ++ b ∷ []) (suc j) (n * 10 + (b - 48)) v (omega arith) (d .room) (omega (arith, pow-suc 10 j, d .low, d .high)) (next-digit j n b p some (d .low) (d .high) e) (d .more)
+    ∙ digits-only bs (p ++ b ∷ []) (suc j) (n * 10 + (b - 48)) v (omega arith) (d .fits) (omega (arith, pow-suc 10 j, d .low, d .high)) (next-digit j n b p some (d .low) (d .high) e) (d .more)
 
 first-only : (b : ℕ) (bs : List ℕ) (v : ℕ) → (b ≡ 48 → ⊥) → digitsFrom (b ∷ bs) 0 ≡ Value v → b ∷ bs ≡ decimal v
 unfolding digitsOf
@@ -155,7 +155,7 @@ first-only b bs v other told =
     let some : 0 < 0 * 10 + (b - 48) = omega (arith, d .low, other) in
     let few : 0 * 10 + (b - 48) < 10 = omega (arith, d .high) in
     let back : 48 + (0 * 10 + (b - 48)) ≡ b = omega (arith, d .low) in
-    digits-only bs (b ∷ []) 1 (0 * 10 + (b - 48)) v some (d .room) (omega arith) (rw (lt-ltb (0 * 10 + (b - 48)) 10 few, back)) (d .more)
+    digits-only bs (b ∷ []) 1 (0 * 10 + (b - 48)) v some (d .fits) (omega arith) (rw (lt-ltb (0 * 10 + (b - 48)) 10 few, back)) (d .more)
 
 none-left : (bs : List ℕ) → length bs ≡ 0 → bs ≡ []
 none-left [] e = refl

@@ -4,7 +4,6 @@ use Prim.Native.Nat.{ℕ, zero, suc, _<_, _≤_}
 use mathlib.Core.Path.{_≡_, refl, ap, _∙_}
 use mathlib.Core.List.{List, _++_}
 use mathlib.Core.Bool.{Bool, true, false}
-use native.Mathlib.Nat.{suc-ne-zero}
 use native.Mathlib.Omega.{arith}
 use lib.Dec.{ltb}
 use lib.ListN.{length, take, drop, length-append}
@@ -13,10 +12,8 @@ use borrow.Author.Tests.{le-ltb, ltb-true, ltb-false}
 use Rattle.words.specs.Answers.{unless}
 use Rattle.words.specs.declared.Written.{Written}
 use Rattle.picture.specs.declared.Settings.{Settings}
-use Rattle.picture.specs.Converting.{needOf, storedOf, pictureRoom, tileBytes, mapBytes, convertSays, answerOf}
-use Rattle.picture.specs.Inner.{askedSays}
-use Rattle.picture.proofs.Checks.{asked-sized, asked-picture, asked-map, room-bytes, convert-asked, convert-12}
-use Rattle.picture.proofs.Converted.{stored-need, tile-bytes-length, map-bytes-length}
+use Rattle.picture.specs.Converting.{tileBytes, mapBytes, answerOf}
+use Rattle.picture.proofs.Laws.{bytes-fit}
 use Rattle.sheet.specs.Sheet.{sheetIn}
 use Rattle.sheet.specs.Report.{reportText, refusedText}
 use Rattle.sheet.specs.Program.{tileSpace, mapSpace, inputSpace, outSpace, pictureSays, pictureText, pictureTells, sheetTells, numberOf, textOf, fully, Ran}
@@ -25,34 +22,14 @@ use Rattle.sheet.specs.declared.Sheet.the-variants.{Read, Wrong}
 use Rattle.sheet.proofs.Exact.{sheet-lines}
 use Rattle.sheet.proofs.Lengths.{report-length, refused-length, longest}
 
--- a conversion that is not refused fits its buffers
-is-zero : (n : ℕ) → ((n ≡ 0 → ⊥) → ⊥) → n ≡ 0
-is-zero zero h = refl
-is-zero (suc n) h = absurd (h (suc-ne-zero n))
-
-module _ (z : Settings) (pixels : List ℕ) (t m : ℕ) (done : convertSays z pixels t m ≡ 0) where
-  asked : askedSays z (length pixels) m ≡ 0
-  asked = is-zero (askedSays z (length pixels) m) (λ h. h (convert-asked z pixels t m (askedSays z (length pixels) m) refl h ∙ done))
-
-  need-case : (b : Bool) → ltb (pictureRoom z t) (needOf z pixels) ≡ b → needOf z pixels ≤ pictureRoom z t
-  need-case true e = absurd (suc-ne-zero 11 (convert-12 z pixels t m asked (ltb-true (pictureRoom z t) (needOf z pixels) e) ∙ done))
-  need-case false e = ltb-false (pictureRoom z t) (needOf z pixels) e
-
-  tiles-fit : length (tileBytes z pixels) ≤ t
-  tiles-fit =
-      let stored : length (storedOf z pixels) ≤ pictureRoom z t = omega (arith, stored-need z pixels, need-case (ltb (pictureRoom z t) (needOf z pixels)) refl) in
-      omega (arith, tile-bytes-length z pixels (asked-picture z (length pixels) m asked), room-bytes z t (asked-sized z (length pixels) m asked .shallow) stored)
-
-  map-fits : length (mapBytes z pixels) ≤ m
-  map-fits = omega (arith, map-bytes-length z pixels, asked-map z (length pixels) m asked)
-
 -- the whole text
 picture-case : (z : Settings) (pixels : List ℕ) (n : ℕ) → z .mode < 16 → pictureSays z pixels ≡ n → length (unless n (pictureText z pixels) (refusedText n)) ≤ outSpace
 unfolding pictureText
 picture-case z pixels zero known e =
     let report = reportText z (answerOf 0 z pixels) in
+    let fit = bytes-fit z pixels tileSpace mapSpace e in
     omega
-    (arith, length-append (report ++ tileBytes z pixels) (mapBytes z pixels), length-append report (tileBytes z pixels), report-length z (answerOf 0 z pixels) known, tiles-fit z pixels tileSpace mapSpace e, map-fits z pixels tileSpace mapSpace e)
+    (arith, length-append (report ++ tileBytes z pixels) (mapBytes z pixels), length-append report (tileBytes z pixels), report-length z (answerOf 0 z pixels) known, fit .0, fit .1)
 picture-case z pixels (suc n) known e = omega (arith, refused-length (suc n))
 
 sheet-case : (input : List ℕ) (t : Sheet) → sheetIn input ≡ t → length (sheetTells input t) ≤ outSpace

@@ -1,8 +1,9 @@
 -- Which number the program tells: 14 exactly where the input is no sheet, and 11 never.
 -- Assumes nothing.
-use Prim.Native.Nat.{ℕ, zero, suc, _*_, _≤_}
+use Prim.Native.Nat.{ℕ, zero, suc, _*_, _<_, _≤_}
 use mathlib.Core.Path.{_≡_, refl, sym, ap, _∙_, subst}
 use mathlib.Core.Bool.{Bool, false, not, _&&_}
+use mathlib.Core.Logic.{⊎-elim}
 use mathlib.Core.List.{List, [], _∷_}
 use native.Mathlib.Nat.{mul-le-mul}
 use native.Mathlib.Omega.{arith}
@@ -24,6 +25,7 @@ use Rattle.sheet.specs.Program.{tileSpace, mapSpace, outSpace, pictureSa
 use Rattle.sheet.specs.declared.Sheet.{Sheet}
 use Rattle.sheet.specs.declared.Sheet.the-variants.{Read, Wrong}
 use Rattle.sheet.proofs.Lines.{bounded, area-small}
+use Rattle.sheet.proofs.Telling.{ran-leaves}
 use Rattle.sheet.proofs.Exact.{sheets-read, only-sheets}
 use Rattle.sheet.proofs.Fitting.{run-answers}
 
@@ -109,7 +111,15 @@ module _ (input : List ℕ) where
   unfolding numberOf
   never-11 told = told-case input (sheetIn input) refl told
 
-  -- and so the answer, where the text fits
+  -- and so the answer is 11 exactly where the text does not fit
+  module _ {before : List ℕ} {r : Written} {after : List ℕ} (ran : Ran (numberOf input) (textOf input) before r after) where
+    pub unfit-11 : length before < length (textOf input) → r .refusal ≡ 11
+    unfit-11 short = ⊎-elim (λ u. u .refusal) (λ w. let never : ⊥ = omega (arith, w .fits) in absurd never) (ran-leaves ran)
+
+    pub only-unfit-11 : r .refusal ≡ 11 → length before < length (textOf input)
+    only-unfit-11 e = ⊎-elim (λ u. u .short) (λ w. absurd (never-11 (sym (w .refusal) ∙ e))) (ran-leaves ran)
+
+  -- with space enough it is the text's number
   module _ {before : List ℕ} {r : Written} {after : List ℕ} (ran : Ran (numberOf input) (textOf input) before r after) (space : outSpace ≤ length before) where
     answered : r .refusal ≡ numberOf input
     answered = ap (λ (w : Written). w .refusal) (run-answers input before space ran)

@@ -4,11 +4,12 @@ use Prim.Native.Nat.{ℕ, _+_, _-_, _≤_, _<_}
 use mathlib.Core.Path.{_≡_, refl, sym, ap, _∙_, subst}
 use mathlib.Core.List.{List, _++_}
 use mathlib.Core.Bool.{Bool, true, false, cond}
+use mathlib.Core.Logic.{_⊎_, inl, inr, ⊎-elim}
 use native.Mathlib.Omega.{arith}
 use lib.Dec.{ltb}
 use lib.ListN.{length, take, drop, length-take, length-append}
-use lib.Seq.{take-append-seam}
-use borrow.Author.Tests.{ltb-false}
+use lib.Seq.{take-append-seam, drop-append-seam}
+use borrow.Author.Tests.{ltb-true, ltb-false}
 use Rattle.words.specs.Answers.{written, overwrite}
 use Rattle.words.specs.declared.Written.{Written}
 use Rattle.words.proofs.Answers.{when-done, when-refused}
@@ -99,11 +100,38 @@ module _ (input before : List ℕ) {r : Written} {after : List ℕ} where
   unfolding numberOf textOf
   ran-wrong e ran = rw e ran
 
--- what is written lies inside the lent bytes
-inside-case : (n len space : ℕ) (b : Bool) (r : Written) → ltb space len ≡ b → r ≡ cond b (written 11 0) (fully n len) → r .written ≤ space
-inside-case n len space true r t e = rw e (omega arith)
-inside-case n len space false r t e = rw e (ltb-false space len t)
+-- What a run leaves: where the text does not fit, 11, 0 and the bytes as they were; otherwise its number, the text and then the bytes as they were.
+pub record Unfit (text before : List ℕ) (r : Written) (after : List ℕ) : Type 0 where
+  pub short : length before < length text
+  pub refusal : r .refusal ≡ 11
+  pub none : r .written ≡ 0
+  pub untouched : after ≡ before
 
-module _ {n : ℕ} {text before : List ℕ} {r : Written} {after : List ℕ} (p : Ran n text before r after) where
-  pub ran-inside : r .written ≤ length before
-  ran-inside = inside-case n (length text) (length before) (ltb (length before) (length text)) r refl (p .answer)
+pub record Whole (n : ℕ) (text before : List ℕ) (r : Written) (after : List ℕ) : Type 0 where
+  pub fits : length text ≤ length before
+  pub refusal : r .refusal ≡ n
+  pub all : r .written ≡ length text
+  pub front : take (length text) after ≡ text
+  pub behind : drop (length text) after ≡ drop (length text) before
+
+module _ {n : ℕ} {text before : List ℕ} {r : Written} {after : List ℕ} where
+  leaves-case : (b : Bool) → ltb (length before) (length text) ≡ b → r ≡ cond b (written 11 0) (fully n (length text)) → after ≡ cond b before (overwrite before text)
+      → Unfit text before r after ⊎ Whole n text before r after
+  leaves-case true t e l =
+      inl (record { short = ltb-true (length before) (length text) t; refusal = ap (λ (w : Written). w .refusal) e; none = ap (λ (w : Written). w .written) e; untouched = l })
+  leaves-case false t e l =
+      inr
+      (record {
+        fits = ltb-false (length before) (length text) t;
+        refusal = ap (λ (w : Written). w .refusal) e;
+        all = ap (λ (w : Written). w .written) e;
+        front = rw l (take-append-seam text (drop (length text) before));
+        behind = rw l (drop-append-seam text (drop (length text) before));
+      })
+
+  pub ran-leaves : Ran n text before r after → Unfit text before r after ⊎ Whole n text before r after
+  ran-leaves p = leaves-case (ltb (length before) (length text)) refl (p .answer) (p .lent)
+
+  -- what is written lies inside the lent bytes
+  pub ran-inside : Ran n text before r after → r .written ≤ length before
+  ran-inside p = ⊎-elim (λ u. omega (arith, u .none)) (λ w. omega (arith, w .all, w .fits)) (ran-leaves p)

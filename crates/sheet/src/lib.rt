@@ -392,7 +392,7 @@ fn put_report(out: &mut [u8], z: Settings, p: Picture) -> usize
     put_numbers(out, end, values)
 }
 
-// The whole text, where out has room for it.
+// The whole text, where out has space for it.
 fn tell(number: u32, text: &[u8], out: &mut [u8]) -> Written
     ensures { λ r. ⌜ Ran number (now (text .entry)) (now (out .entry)) r (now (out .exit)) ⌝ }
 {
