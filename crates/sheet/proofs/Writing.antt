@@ -101,15 +101,17 @@ pub held-length : {t : Text} {text : List ℕ} → Holds t text → t .to - t .f
 held-length {t} {text} h = sym (text-length t (h .kept)) ∙ ap length (h .content)
 
 -- a line: its key, its text and a newline
-module _ (k at m₁ m₂ end : ℕ) (key : Text) (text before middle later after : List ℕ) where
-  pub line-put : Holds key (keyOf k) → Puts (textIn key) at before m₁ middle → Puts text m₁ middle m₂ later → Puts (10 ∷ []) m₂ later end after → Puts (lineOf k text) at before end after
+module _ (k : ℕ) {at m₁ m₂ end : ℕ} {key : Text} {text before middle later after : List ℕ} where
+  pub line-put : Holds key (keyOf k) → Puts (textIn key) at before m₁ middle → Puts text m₁ middle m₂ later → Puts (10 ∷ []) m₂ later end after
+      → Puts (lineOf k text) at before end after
   unfolding lineOf
   line-put h p q r =
       subst (λ (l : List ℕ). Puts (l ++ text ++ 10 ∷ []) at before end after) (h .content) (puts-more (puts-more p q) r)
 
 -- the report's lines of numbers, one more
-module _ (values : List ℕ) (i at mid end : ℕ) (number : Text) (before middle after : List ℕ) where
-  pub number-put : Holds number (decimal (getD values i 0)) → Puts (each i (numberLine values)) at before mid middle → Puts (lineOf (getD reportKeys i 0) (textIn number)) mid middle end after → Puts (each (i + 1) (numberLine values)) at before end after
+module _ (values : List ℕ) (i : ℕ) {at mid end : ℕ} {number : Text} {before middle after : List ℕ} where
+  pub number-put : Holds number (decimal (getD values i 0)) → Puts (each i (numberLine values)) at before mid middle
+      → Puts (lineOf (getD reportKeys i 0) (textIn number)) mid middle end after → Puts (each (i + 1) (numberLine values)) at before end after
   unfolding numberLine
   number-put h p q =
       rw (add-one i) (puts-more p (subst (λ (l : List ℕ). Puts (lineOf (getD reportKeys i 0) l) mid middle end after) (h .content) q))
@@ -117,11 +119,12 @@ module _ (values : List ℕ) (i at mid end : ℕ) (number : Text) (before middle
 pub key-inside : (i : ℕ) → i < length reportKeys → getD reportKeys i 0 < keyCount
 key-inside i h = ltb→lt (getD reportKeys i 0) keyCount (all-at (length reportKeys) (λ k. ltb (getD reportKeys k 0) keyCount) tt i h)
 
-pub all-numbers : (values : List ℕ) (i at end : ℕ) (before after : List ℕ) → i ≡ length reportKeys → Puts (each i (numberLine values)) at before end after → Puts (each (length reportKeys) (numberLine values)) at before end after
-all-numbers values i at end before after e p = subst (λ (k : ℕ). Puts (each k (numberLine values)) at before end after) e p
+pub all-numbers : (values : List ℕ) (i : ℕ) {before after : List ℕ} {at end : ℕ} → i ≡ length reportKeys → Puts (each i (numberLine values)) at before end after
+    → Puts (each (length reportKeys) (numberLine values)) at before end after
+all-numbers values i {before} {after} {at} {end} e p = subst (λ (k : ℕ). Puts (each k (numberLine values)) at before end after) e p
 
 -- the whole report
-module _ (z : Settings) (p : Picture) (name : Text) (mid end : ℕ) (before middle after : List ℕ) where
+module _ (z : Settings) (p : Picture) {name : Text} {mid end : ℕ} {before middle after : List ℕ} where
   pub report-put : Holds name (nameOf (z .mode)) → Puts (lineOf mode (textIn name)) 0 before mid middle
       → {flip discard : ℕ} → flip ≡ bit (z .flip) → discard ≡ bit (z .discard)
       → Puts (each (length reportKeys) (numberLine (z .depth ∷ flip ∷ discard ∷ z .columns ∷ z .rows ∷ p .tiles ∷ p .discarded ∷ p .«tile_bytes» ∷ p .«map_bytes» ∷ []))) mid middle end after
@@ -130,17 +133,8 @@ module _ (z : Settings) (p : Picture) (name : Text) (mid end : ℕ) (before midd
   report-put h q f d r =
       puts-more (subst (λ (l : List ℕ). Puts (lineOf mode l) 0 before mid middle) (h .content) q) (rw (← f, ← d) r)
 
--- what was put at the start stands there
-pub front : (a before after : List ℕ) (end : ℕ) → length a ≤ length before → Puts a 0 before end after → take end after ≡ a
-front a before after end h p =
-    let size : end ≡ length a = p .end ∙ zero-add (length a) in
-    rw (p .lent, size, sets-front before a h) (take-append-seam a (drop (length a) before))
-
-pub front-inside : (a before after : List ℕ) (end : ℕ) → end ≤ length before → Puts a 0 before end after → length a ≤ length before
-front-inside a before after end h p = omega (arith, p .end)
-
 -- the whole text, told or not
-module _ (number : ℕ) (text before : List ℕ) where
+module _ {number : ℕ} {text before : List ℕ} where
   pub no-space : length before < length text → {r : Written} → r ≡ written 11 0 → Ran number text before r before
   no-space h e = record { answer = rw (lt-ltb _ _ h) e; lent = rw (lt-ltb _ _ h) }
 
@@ -151,10 +145,15 @@ module _ (number : ℕ) (text before : List ℕ) where
         lent = rw (le-ltb _ _ h) (p .lent ∙ sets-front before text h);
       }
 
-pub told-front : (number : ℕ) (text buffer lent before : List ℕ) {end : ℕ} {r : Written} {after : List ℕ} → end ≤ length buffer → Puts text 0 buffer end lent → Ran number (take end lent) before r after → Ran number text before r after
-told-front number text buffer lent before {end} {r} {after} few p ran =
-    subst (λ (l : List ℕ). Ran number l before r after) (front text buffer lent end (front-inside text buffer lent end few p) p) ran
+-- a text that was made at the start of a buffer
+pub told-front : {number : ℕ} {text buffer lent before : List ℕ} {end : ℕ} {r : Written} {after : List ℕ} → end ≤ length buffer → Puts text 0 buffer end lent
+    → Ran number (take end lent) before r after → Ran number text before r after
+told-front {number} {text} {buffer} {lent} {before} {end} {r} {after} few p ran =
+    let size : end ≡ length text = p .end ∙ zero-add (length text) in
+    let front : take end lent ≡ text = rw (p .lent, size, sets-front buffer text (omega arith)) (take-append-seam text (drop (length text) buffer)) in
+    subst (λ (l : List ℕ). Ran number l before r after) front ran
 
-pub refused-told : (number : ℕ) (t : Text) (before : List ℕ) {r : Written} {after : List ℕ} → Holds t (decimal number) → Ran number (lineOf refused (textIn t)) before r after → Ran number (refusedText number) before r after
+pub refused-told : {number : ℕ} {t : Text} {before : List ℕ} {r : Written} {after : List ℕ} → Holds t (decimal number) → Ran number (lineOf refused (textIn t)) before r after
+    → Ran number (refusedText number) before r after
 unfolding refusedText
-refused-told number t before {r} {after} h ran = subst (λ (l : List ℕ). Ran number (lineOf refused l) before r after) (h .content) ran
+refused-told {number} {before = before} {r} {after} h ran = subst (λ (l : List ℕ). Ran number (lineOf refused l) before r after) (h .content) ran

@@ -46,18 +46,20 @@ loop-less c = search needs
 
 loop-again : tie.Need-loop-again Inv-loop μ-loop
 loop-again c =
-    let l = c .before .before .before .before .before .before .loop in (
+    let n = c .before .before .before in
+    let b = n .before .before .before in
+    let l = b .loop in (
       omega arith,
       omega arith,
       search needs,
-      number-put (c .before .before .before .before .before .before .before .before .args .t3) (l .i) _ _ _ _ _ _ _ (c .before .before .before .numeral .ensures) (l .inv .3) (c .before .before .put-line .ensures .0),
+      number-put (b .before .before .args .t3) (l .i) (n .numeral .ensures) (l .inv .3) (c .before .before .put-line .ensures .0),
     )
 
 same-length : tie.Need-same-length Inv-loop μ-loop
 same-length c = search needs
 
 returns : tie.Need-returns Inv-loop μ-loop
-returns c = (all-numbers _ (c .before .loop .i) _ _ _ _ (omega arith) (c .before .loop .inv .3), omega arith)
+returns c = (all-numbers _ (c .before .loop .i) (omega arith) (c .before .loop .inv .3), omega arith)
 
 pub put-numbers-spec : {M : Type 1} → statement M
 put-numbers-spec =
