@@ -12,7 +12,7 @@ fn title(name: &[u8]) {
 }
 
 fn answer(input: &[u8]) {
-    let mut out = [0u8; 67840];
+    let mut out = [0u8; sheet::OUT_SPACE];
     let r = sheet::run(input, &mut out);
     let written = r.written;
     io::write_all(STDOUT_FILENO, &out[..written]);

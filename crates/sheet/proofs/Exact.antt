@@ -7,28 +7,80 @@ use mathlib.Core.Bool.{Bool, true, false, cond}
 use native.Mathlib.Nat.{pow-suc, mul-le-mul, not-suc-le-zero}
 use native.Mathlib.Numerals.{add-one}
 use native.Mathlib.Omega.{arith}
-use lib.Dec.{T, leb, ltb, eqb, leb→le}
-use lib.ListN.{length, getD, set, take, drop, replicate, length-append, length-drop, length-set, take-append-drop}
-use lib.Seq.{length-take-le, append-snoc, take-suc, take-add, getD-set-same, getD-set-other}
-use borrow.Author.Tests.{lt-ltb, le-ltb, ltb-true, ltb-false, eqb-true, eqb-false}
+use lib.Dec.{T, leb, ltb, eqb}
+use lib.ListN.{length, getD, take, drop, length-drop, take-append-drop}
+use lib.Seq.{length-take-le, append-snoc, take-suc, take-add}
+use borrow.Author.Tests.{lt-ltb, le-ltb, ltb-true, ltb-false, leb-true, eqb-true, eqb-false}
 use Rattle.words.specs.Bytes.{bit, same}
+use Rattle.words.specs.Loops.{each}
 use Rattle.words.proofs.Bytes.{same-eq}
-use Rattle.words.proofs.Loops.{all-at}
+use Rattle.words.proofs.Filling.{each-of}
+use Rattle.words.proofs.Loops.{both-left, both-right}
 use Rattle.mode.specs.Table.{modeOf}
 use Rattle.mode.specs.Names.{nameOf, namedFrom, modeNamed}
 use Rattle.mode.specs.declared.Mode.{Mode}
 use Rattle.mode.specs.declared.Named.{Named}
 use Rattle.mode.specs.declared.Named.the-variants.{Console, Nothing as NoMode}
 use Rattle.picture.specs.declared.Settings.{Settings}
-use Rattle.sheet.specs.Keys.{keyOf, lineOf}
+use Rattle.sheet.specs.Keys.{keyOf, lineOf, mode}
 use Rattle.sheet.specs.Numbers.{largest, digitsOf, decimal, digitsFrom, numberIn, atMost}
-use Rattle.sheet.specs.Sheet.{modeTold, topOf, textSays, lineSays, lineLength, settingsOf, linesThen, linesFrom, linesIn, withPixels, sheetIn, sheetText, Writable, IsSheet}
-use Rattle.sheet.proofs.Limits.{never-told, never-named, never-read, Within, within-more, line-small, cond-true, cond-read, then-read, pixels-read}
-use Rattle.sheet.proofs.Trips.{bit-small, sheet-back}
+use Rattle.sheet.specs.Sheet.{sheetLines, modeTold, textSays, lineSays, lineLength, Lines, Numbers, NoLines, linesThen, linesFrom, settingsOf, valuesOf, sheetOf, linesIn, withPixels, sheetIn, textFor, linesText, sheetText, Within, IsSheet}
+use Rattle.sheet.specs.declared.Line.{Line}
 use Rattle.sheet.specs.declared.Told.{Told}
 use Rattle.sheet.specs.declared.Told.the-variants.{Value, Nothing}
 use Rattle.sheet.specs.declared.Sheet.{Sheet}
 use Rattle.sheet.specs.declared.Sheet.the-variants.{Read, Wrong}
+use Rattle.sheet.proofs.Lines.{isLine, areLines, mode-top, eight-lines, Bounded, bounded}
+use Rattle.sheet.proofs.Trips.{sheet-back}
+
+-- what tells nothing tells no number, and so on
+never-told : {v : ℕ} → Nothing ≡ Value v → ⊥
+never-told e =
+    let no : _≡_ {A = ℕ} 0 1 = cc in
+    omega arith
+
+never-named : {m : Mode} → NoMode ≡ Console m → ⊥
+never-named e =
+    let no : _≡_ {A = ℕ} 0 1 = cc in
+    omega arith
+
+never-lines : {vs : List ℕ} {at : ℕ} → NoLines ≡ Numbers vs at → ⊥
+never-lines e =
+    let no : _≡_ {A = ℕ} 0 1 = cc in
+    omega arith
+
+never-read : {z : Settings} {at : ℕ} → Wrong ≡ Read z at → ⊥
+never-read e =
+    let no : _≡_ {A = ℕ} 0 1 = cc in
+    omega arith
+
+-- a name's mode is one of the sixteen
+named-case : (s : List ℕ) (m k : ℕ) (c : Mode) (b : Bool) → (namedFrom s (m + 1) k ≡ Console c → c .0 < m + 1 + k) → cond b (Console (modeOf m)) (namedFrom s (m + 1) k) ≡ Console c → c .0 < m + suc k
+named-case s m k c true ih e =
+    let here : m ≡ c .0 = cc in
+    omega arith
+named-case s m k c false ih e = omega (arith, ih e)
+
+named-small : (s : List ℕ) (m k : ℕ) (c : Mode) → namedFrom s m k ≡ Console c → c .0 < m + k
+named-small s m zero c e = absurd (never-named e)
+named-small s m (suc k) c e = named-case s m k c (same s (nameOf m)) (named-small s (m + 1) k c) e
+
+mode-case : (n : Named) (v : ℕ) → ((c : Mode) → n ≡ Console c → c .0 < 16) → modeTold n ≡ Value v → v ≤ 15
+mode-case (Console c) v h e =
+    let same : c .0 ≡ v = cc in
+    omega (arith, h c refl)
+mode-case NoMode v h e = absurd (never-told e)
+
+-- a number is at most the largest
+most-case : (top n v : ℕ) (b : Bool) → leb n top ≡ b → cond b (Value n) Nothing ≡ Value v → v ≤ top
+most-case top n v true t e =
+    let same : n ≡ v = cc in
+    omega (arith, leb-true n top t)
+most-case top n v false t e = absurd (never-told e)
+
+most-small : (top v : ℕ) (t : Told) → atMost top t ≡ Value v → v ≤ top
+most-small top v (Value n) e = most-case top n v (leb n top) refl e
+most-small top v Nothing e = absurd (never-told e)
 
 -- as many digits as are enough, and no more
 fuel-case : (n : ℕ) (a b : List ℕ) (t : Bool) → (t ≡ false → a ≡ b) → cond t ((48 + n) ∷ []) (a ++ (48 + n % 10) ∷ []) ≡ cond t ((48 + n) ∷ []) (b ++ (48 + n % 10) ∷ [])
@@ -59,7 +111,7 @@ skip-right false x v e = e
 record Digit (b : ℕ) (bs : List ℕ) (n v : ℕ) : Type 0 where
   low : 48 ≤ b
   high : b ≤ 57
-  room : n * 10 + (b - 48) ≤ largest
+  fits : n * 10 + (b - 48) ≤ largest
   more : digitsFrom bs (n * 10 + (b - 48)) ≡ Value v
 
 digit-was : (b : ℕ) (bs : List ℕ) (n v : ℕ) → digitsFrom (b ∷ bs) n ≡ Value v → Digit b bs n v
@@ -73,7 +125,7 @@ digit-was b bs n v e =
     record {
       low = ltb-false b 48 (skip-left (ltb b 48) second v e);
       high = ltb-false 57 b (skip-left (ltb 57 b) third v e₂);
-      room = ltb-false largest (n * 10 + (b - 48)) (skip-left (ltb largest (n * 10 + (b - 48))) last v e₃);
+      fits = ltb-false largest (n * 10 + (b - 48)) (skip-left (ltb largest (n * 10 + (b - 48))) last v e₃);
       more = skip-right (ltb largest (n * 10 + (b - 48))) last v e₃;
     }
 
@@ -94,7 +146,7 @@ digits-only [] p j n v some small fits e told =
 digits-only (b ∷ bs) p j n v some small fits e told =
     let d = digit-was b bs n v told in
     sym (append-snoc p b bs)
-    ∙ digits-only bs (p ++ b ∷ []) (suc j) (n * 10 + (b - 48)) v (omega arith) (d .room) (omega (arith, pow-suc 10 j, d .low, d .high)) (next-digit j n b p some (d .low) (d .high) e) (d .more)
+    ∙ digits-only bs (p ++ b ∷ []) (suc j) (n * 10 + (b - 48)) v (omega arith) (d .fits) (omega (arith, pow-suc 10 j, d .low, d .high)) (next-digit j n b p some (d .low) (d .high) e) (d .more)
 
 first-only : (b : ℕ) (bs : List ℕ) (v : ℕ) → (b ≡ 48 → ⊥) → digitsFrom (b ∷ bs) 0 ≡ Value v → b ∷ bs ≡ decimal v
 unfolding digitsOf
@@ -103,7 +155,7 @@ first-only b bs v other told =
     let some : 0 < 0 * 10 + (b - 48) = omega (arith, d .low, other) in
     let few : 0 * 10 + (b - 48) < 10 = omega (arith, d .high) in
     let back : 48 + (0 * 10 + (b - 48)) ≡ b = omega (arith, d .low) in
-    digits-only bs (b ∷ []) 1 (0 * 10 + (b - 48)) v some (d .room) (omega arith) (rw (lt-ltb (0 * 10 + (b - 48)) 10 few, back)) (d .more)
+    digits-only bs (b ∷ []) 1 (0 * 10 + (b - 48)) v some (d .fits) (omega arith) (rw (lt-ltb (0 * 10 + (b - 48)) 10 few, back)) (d .more)
 
 none-left : (bs : List ℕ) → length bs ≡ 0 → bs ≡ []
 none-left [] e = refl
@@ -148,37 +200,38 @@ mode-only s v (Console c) h e =
     h c refl ∙ ap nameOf same
 mode-only s v NoMode h e = absurd (never-told e)
 
--- the text of line k, from what it tells
-wordFor : ℕ → ℕ → List ℕ
-wordFor k v = cond (eqb k 0) (nameOf v) (decimal v)
+-- a line that was read: its text, and its number
+most-only : (top v n : ℕ) (t : Bool) → cond t (Value n) Nothing ≡ Value v → Value n ≡ Value v
+most-only top v n true e = e
+most-only top v n false e = absurd (never-told e)
 
-most-case : (n v : ℕ) (t : Bool) → cond t (Value n) Nothing ≡ Value v → Value n ≡ Value v
-most-case n v true e = e
-most-case n v false e = absurd (never-told e)
+number-was : (top v : ℕ) (t : Told) → atMost top t ≡ Value v → t ≡ Value v
+number-was top v (Value n) e = most-only top v n (leb n top) e
+number-was top v Nothing e = e
 
-most-only : (top v : ℕ) (t : Told) → atMost top t ≡ Value v → t ≡ Value v
-most-only top v (Value n) e = most-case n v (leb n top) e
-most-only top v Nothing e = e
+module _ (l : Line) (v : ℕ) where
+  word-case : (text : List ℕ) (named : Bool) → cond named (modeTold (modeNamed text)) (atMost (l .1) (numberIn text)) ≡ Value v → text ≡ cond named (nameOf v) (decimal v)
+  word-case text true e = mode-only text v (modeNamed text) (λ c. name-only text 0 16 c) e
+  word-case text false e = number-only text v (number-was (l .1) v (numberIn text) e)
 
-word-case : (k v : ℕ) (text : List ℕ) (t : Bool) → cond t (modeTold (modeNamed text)) (atMost (topOf k) (numberIn text)) ≡ Value v → text ≡ cond t (nameOf v) (decimal v)
-word-case k v text true e = mode-only text v (modeNamed text) (λ c. name-only text 0 16 c) e
-word-case k v text false e = number-only text v (most-only (topOf k) v (numberIn text) e)
+  small-case : T (isLine l) → (text : List ℕ) (named : Bool) → eqb (l .0) mode ≡ named → cond named (modeTold (modeNamed text)) (atMost (l .1) (numberIn text)) ≡ Value v → v ≤ l .1
+  small-case t text true n e = omega (arith, mode-top l t n, mode-case (modeNamed text) v (λ c. named-small text 0 16 c) e)
+  small-case t text false n e = most-small (l .1) v (numberIn text) e
 
-word-only : (k v : ℕ) (text : List ℕ) → textSays k text ≡ Value v → text ≡ wordFor k v
-unfolding textSays wordFor
-word-only k v text e = word-case k v text (eqb k 0) e
+  line-case : (bytes : List ℕ) (t : Bool) → same (take (length (keyOf (l .0))) bytes) (keyOf (l .0)) ≡ t → cond t (textSays l (drop (length (keyOf (l .0))) bytes)) Nothing ≡ Value v → (bytes ≡ keyOf (l .0) ++ textFor l v) × (T (isLine l) → v ≤ l .1)
+  unfolding textSays textFor
+  line-case bytes true h e =
+      let n = length (keyOf (l .0)) in (
+        sym (take-append-drop n bytes)
+            ∙ ap (λ (x : List ℕ). x ++ drop n bytes) (same-eq (take n bytes) (keyOf (l .0)) (true-T (same (take n bytes) (keyOf (l .0))) h))
+            ∙ ap (λ (x : List ℕ). keyOf (l .0) ++ x) (word-case (drop n bytes) (eqb (l .0) mode) e),
+        λ t. small-case t (drop n bytes) (eqb (l .0) mode) refl e,
+      )
+  line-case bytes false h e = absurd (never-told e)
 
-line-case : (k v : ℕ) (line : List ℕ) (t : Bool) → same (take (length (keyOf k)) line) (keyOf k) ≡ t → cond t (textSays k (drop (length (keyOf k)) line)) Nothing ≡ Value v → line ≡ keyOf k ++ wordFor k v
-line-case k v line true h e =
-    let n = length (keyOf k) in
-    sym (take-append-drop n line)
-    ∙ ap (λ (l : List ℕ). l ++ drop n line) (same-eq (take n line) (keyOf k) (true-T (same (take n line) (keyOf k)) h))
-    ∙ ap (λ (l : List ℕ). keyOf k ++ l) (word-only k v (drop n line) e)
-line-case k v line false h e = absurd (never-told e)
-
-line-only : (k v : ℕ) (line : List ℕ) → lineSays k line ≡ Value v → line ≡ keyOf k ++ wordFor k v
-unfolding lineSays
-line-only k v line e = line-case k v line (same (take (length (keyOf k)) line) (keyOf k)) refl e
+  line-only : (bytes : List ℕ) → lineSays l bytes ≡ Value v → (bytes ≡ keyOf (l .0) ++ textFor l v) × (T (isLine l) → v ≤ l .1)
+  unfolding lineSays
+  line-only bytes e = line-case bytes (same (take (length (keyOf (l .0))) bytes) (keyOf (l .0))) refl e
 
 -- where a line ends, a newline stands
 newline-case : (b : ℕ) (bs : List ℕ) (t : Bool) → eqb b 10 ≡ t → (lineLength bs < length bs → getD bs (lineLength bs) 0 ≡ 10) → cond t 0 (1 + lineLength bs) < suc (length bs) → getD (b ∷ bs) (cond t 0 (1 + lineLength bs)) 0 ≡ 10
@@ -192,63 +245,67 @@ unfolding lineLength
 newline-at [] l = absurd (not-suc-le-zero l)
 newline-at (b ∷ bs) l = newline-case b bs (eqb b 10) refl (newline-at bs) l
 
-whole-line : (k v : ℕ) (rest : List ℕ) → lineLength rest < length rest → lineSays k (take (lineLength rest) rest) ≡ Value v → take (lineLength rest + 1) rest ≡ lineOf k (wordFor k v)
+whole-line : (l : Line) (v : ℕ) (rest : List ℕ) → lineLength rest < length rest → lineSays l (take (lineLength rest) rest) ≡ Value v → take (lineLength rest + 1) rest ≡ lineOf (l .0) (textFor l v)
 unfolding lineOf
-whole-line k v rest l e =
-    rw (add-one (lineLength rest), take-suc rest (lineLength rest) 0 l, newline-at rest l, line-only k v (take (lineLength rest) rest) e)
+whole-line l v rest h e =
+    rw (add-one (lineLength rest), take-suc rest (lineLength rest) 0 h, newline-at rest h, line-only l v (take (lineLength rest) rest) e .0)
 
--- the n lines from line k on, as the numbers ws are written
-textFrom : List ℕ → ℕ → ℕ → List ℕ
-textFrom ws k zero = []
-textFrom ws k (suc n) = lineOf k (wordFor k (getD ws k 0)) ++ textFrom ws (k + 1) n
-
--- what was read from line k on, with vs before it: the numbers of all lines, and their text
-record Told8 (s : List ℕ) (z : Settings) (to n k : ℕ) (vs : List ℕ) (at : ℕ) : Type 0 where
+-- what was read from a place on, with vs before it: the numbers, and their text
+record Were (ls : List Line) (s ws : List ℕ) (to : ℕ) (vs : List ℕ) (at : ℕ) : Type 0 where
   values : List ℕ
-  told : settingsOf values ≡ z
-  within : Within 8 values
-  before : (j : ℕ) → j < k → getD values j 0 ≡ getD vs j 0
-  text : take to s ≡ take at s ++ textFrom values k n
+  all : ws ≡ vs ++ values
+  within : Within ls values
+  text : take to s ≡ take at s ++ linesText ls values
   inside : to ≤ length s
 
-module _ (s : List ℕ) (z : Settings) (to : ℕ) where
-  lines-only : (n k : ℕ) (vs : List ℕ) (at : ℕ) → k + n ≡ 8 → length vs ≡ 8 → Within k vs → at ≤ length s → linesFrom s n k vs at ≡ Read z to → Told8 s z to n k vs at
-  unfolding linesFrom textFrom
-  lines-only zero k vs at all len h room e =
-      let same : settingsOf vs ≡ z = cc in
+cond-true : (b : Bool) (x : Lines) (ws : List ℕ) (to : ℕ) → cond b x NoLines ≡ Numbers ws to → b ≡ true
+cond-true true x ws to e = refl
+cond-true false x ws to e = absurd (never-lines e)
+
+cond-read : (b : Bool) (x : Lines) (ws : List ℕ) (to : ℕ) → cond b x NoLines ≡ Numbers ws to → x ≡ Numbers ws to
+cond-read true x ws to e = e
+cond-read false x ws to e = absurd (never-lines e)
+
+then-read : (R : Type 0) (t : Told) (f : ℕ → Lines) (ws : List ℕ) (to : ℕ) → linesThen t f ≡ Numbers ws to → ((v : ℕ) → t ≡ Value v → f v ≡ Numbers ws to → R) → R
+then-read R (Value v) f ws to e go = go v refl e
+then-read R Nothing f ws to e go = absurd (never-lines e)
+
+module _ (s ws : List ℕ) (to : ℕ) where
+  lines-only : (ls : List Line) → T (areLines ls) → (vs : List ℕ) (at : ℕ) → at ≤ length s → linesFrom ls s at vs ≡ Numbers ws to → Were ls s ws to vs at
+  unfolding linesFrom linesText
+  lines-only [] t vs at h e =
+      let same : vs ≡ ws = cc in
       let there : at ≡ to = cc in
-      let eight : k ≡ 8 = omega arith in
       record {
-        values = vs;
-        told = same;
-        within = subst (λ (i : ℕ). Within i vs) eight h;
-        before = λ j lt. refl;
+        values = [];
+        all = sym same ∙ sym (append-nil vs);
+        within = tt;
         text = ap (λ (i : ℕ). take i s) (sym there) ∙ sym (append-nil (take at s));
         inside = omega arith;
       }
-  lines-only (suc n) k vs at all len h room e =
+  lines-only (l ∷ ls) t vs at h e =
       let rest = drop at s in
       let end = lineLength rest in
-      let line = take end rest in
-      let more : ℕ → Sheet = λ v. linesFrom s n (k + 1) (set vs k v) (at + (end + 1)) in
-      let ended = ltb-true end (length rest) (cond-true (ltb end (length rest)) (linesThen (lineSays k line) more) z to e) in
-      then-read (Told8 s z to (suc n) k vs at) (lineSays k line) more z to (cond-read (ltb end (length rest)) (linesThen (lineSays k line) more) z to e)
+      let bytes = take end rest in
+      let more : ℕ → Lines = λ v. linesFrom ls s (at + (end + 1)) (vs ++ v ∷ []) in
+      let ended = ltb-true end (length rest) (cond-true (ltb end (length rest)) (linesThen (lineSays l bytes) more) ws to e) in
+      then-read (Were (l ∷ ls) s ws to vs at) (lineSays l bytes) more ws to (cond-read (ltb end (length rest)) (linesThen (lineSays l bytes) more) ws to e)
       (λ v told next.
-      let r = lines-only n (k + 1) (set vs k v) (at + (end + 1)) (omega arith) (length-set vs k v ∙ len) (within-more k v vs (omega arith) (line-small k v line told) h) (omega (arith, length-drop at s)) next in
-      let here : getD (r .values) k 0 ≡ v = r .before k (omega arith) ∙ getD-set-same vs k v 0 (omega arith) in
+      let r = lines-only ls (both-right (isLine l) (areLines ls) t) (vs ++ v ∷ []) (at + (end + 1)) (omega (arith, length-drop at s)) next in
+      let others = linesText ls (r .values) in
       record {
-        values = r .values;
-        told = r .told;
-        within = r .within;
-        before = λ j lt. r .before j (omega arith) ∙ getD-set-other vs k j v 0 (λ q. omega arith);
+        values = v ∷ r .values;
+        all = r .all ∙ append-snoc vs v (r .values);
+        within = (line-only l v bytes told .1 (both-left (isLine l) (areLines ls) t), r .within);
         text =
             r .text
-            ∙ ap (λ (l : List ℕ). l ++ textFrom (r .values) (k + 1) n) (take-add at (end + 1) s)
-            ∙ append-assoc (take at s) (take (end + 1) rest) (textFrom (r .values) (k + 1) n)
-            ∙ ap (λ (l : List ℕ). take at s ++ (l ++ textFrom (r .values) (k + 1) n)) (whole-line k v rest ended told ∙ ap (λ (i : ℕ). lineOf k (wordFor k i)) (sym here));
+            ∙ ap (λ (x : List ℕ). x ++ others) (take-add at (end + 1) s)
+            ∙ append-assoc (take at s) (take (end + 1) rest) others
+            ∙ ap (λ (x : List ℕ). take at s ++ (x ++ others)) (whole-line l v rest ended told);
         inside = r .inside;
       })
 
+-- the numbers that the eight lines told are those of the settings that they gave
 bit-of : (v : ℕ) → v ≤ 1 → bit (eqb v 1) ≡ v
 bit-of zero h = refl
 bit-of (suc zero) h = refl
@@ -256,102 +313,82 @@ bit-of (suc (suc v)) h =
     let no : ⊥ = omega arith in
     absurd no
 
-text-right : (ws : List ℕ) → Within 8 ws → textFrom ws 0 8 ≡ sheetText (settingsOf ws)
-unfolding textFrom wordFor sheetText settingsOf Within topOf
-text-right ws h =
-    rw (bit-of (getD ws 2 0) (h 2 (omega arith)), bit-of (getD ws 3 0) (h 3 (omega arith))) (simp (append-assoc, append-nil))
+within-length : (ls : List Line) (us : List ℕ) → Within ls us → length us ≡ length ls
+within-length [] [] w = refl
+within-length [] (u ∷ us) w = absurd w
+within-length (l ∷ ls) [] w = absurd w
+within-length (l ∷ ls) (u ∷ us) w = ap suc (within-length ls us (w .1))
 
-module _ (s : List ℕ) (z : Settings) (at : ℕ) (e : linesIn s ≡ Read z at) where
-  all-told : Told8 s z at 8 0 (replicate 8 0) 0
-  unfolding linesIn Within
-  all-told = lines-only s z at 8 0 (replicate 8 0) 0 refl refl (λ j lt. absurd (not-suc-le-zero lt)) (omega arith) e
+values-back : (us : List ℕ) → Within sheetLines us → valuesOf (settingsOf us) ≡ us
+unfolding sheetLines settingsOf
+values-back us w =
+    let at : ℕ → ℕ = λ k. getD us k 0 in
+    let eight : each 8 (λ k. at k ∷ []) ≡ us = ap (λ (n : ℕ). each n (λ k. at k ∷ [])) (sym (within-length sheetLines us w)) ∙ each-of us in
+    let h = subst (Within sheetLines) (sym eight) w in
+    rw (bit-of (at 2) (h .1 .1 .0), bit-of (at 3) (h .1 .1 .1 .0)) eight
 
-  pub lines-were : take at s ≡ sheetText z
-  lines-were = all-told .text ∙ text-right (all-told .values) (all-told .within) ∙ ap sheetText (all-told .told)
+-- the lines that gave settings
+pub record SheetLines (s : List ℕ) (z : Settings) (at : ℕ) : Type 0 where
+  pub settings : Within sheetLines (valuesOf z)
+  pub limits : Bounded z
+  pub text : take at s ≡ sheetText z
+  pub inside : at ≤ length s
 
-  pub writable : Writable z
-  unfolding Within settingsOf topOf
-  writable =
-      let h = all-told .within in
-      let same = all-told .told in
+module _ (s : List ℕ) (z : Settings) (at : ℕ) where
+  sheet-case : (t : Lines) → linesFrom sheetLines s 0 [] ≡ t → sheetOf t ≡ Read z at → SheetLines s z at
+  unfolding sheetText
+  sheet-case (Numbers ws to) e read =
+      let same : settingsOf ws ≡ z = cc in
+      let there : to ≡ at = cc in
+      let r = lines-only s ws to sheetLines eight-lines [] 0 (omega arith) e in
+      let w : Within sheetLines ws = subst (Within sheetLines) (sym (r .all)) (r .within) in
+      let numbers : ws ≡ valuesOf z = sym (values-back ws w) ∙ ap valuesOf same in
+      let told = subst (Within sheetLines) numbers w in
       record {
-        known = subst (λ (y : Settings). y .mode < 16) same (omega (arith, h 0 (omega arith)));
-        depth = subst (λ (y : Settings). y .depth ≤ largest) same (h 1 (omega arith));
-        limit = subst (λ (y : Settings). y .limit ≤ largest) same (h 4 (omega arith));
-        palette = subst (λ (y : Settings). y .palette ≤ largest) same (h 5 (omega arith));
-        columns = subst (λ (y : Settings). y .columns ≤ 32) same (h 6 (omega arith));
-        rows = subst (λ (y : Settings). y .rows ≤ 32) same (h 7 (omega arith));
+        settings = told;
+        limits = bounded z told;
+        text = ap (λ (i : ℕ). take i s) (sym there) ∙ r .text ∙ ap (linesText sheetLines) (sym (r .all) ∙ numbers);
+        inside = omega (arith, r .inside);
       }
+  sheet-case NoLines e read = absurd (never-read read)
+
+  pub lines-were : linesIn s ≡ Read z at → SheetLines s z at
+  unfolding linesIn
+  lines-were e = sheet-case (linesFrom sheetLines s 0 []) refl e
 
 -- each is read as it was written
 pub sheets-read : (z : Settings) (pixels s : List ℕ) → IsSheet z pixels s → sheetIn s ≡ Read z (length (sheetText z))
 sheets-read z pixels s h = ap sheetIn (h .whole) ∙ sheet-back z (h .settings) pixels (h .size)
 
--- and nothing else is read: "anything else is 14"
-size-case : (size : ℕ) (t : Sheet) (z : Settings) (at : ℕ) → withPixels size t ≡ Read z at → size ≡ at + 64 * (z .columns * z .rows)
-size-case size (Read y to) z at e =
-    let there = cond-read (eqb size (to + 64 * (y .columns * y .rows))) (Read y to) z at e in
+-- and nothing else is read: "Anything else .. is 14"
+pixels-case : (size : ℕ) (y : Settings) (to : ℕ) (z : Settings) (at : ℕ) (b : Bool) → eqb size (to + 64 * (y .columns * y .rows)) ≡ b → cond b (Read y to) Wrong ≡ Read z at
+    → (Read y to ≡ Read z at) × (size ≡ at + 64 * (z .columns * z .rows))
+pixels-case size y to z at true h e =
     let same : y ≡ z = cc in
     let start : to ≡ at = cc in
-    eqb-true size (to + 64 * (y .columns * y .rows)) (cond-true (eqb size (to + 64 * (y .columns * y .rows))) (Read y to) z at e) ∙ rw (same, start)
-size-case size Wrong z at e = absurd (never-read e)
+    (e, eqb-true size (to + 64 * (y .columns * y .rows)) h ∙ rw (same, start))
+pixels-case size y to z at false h e = absurd (never-read e)
+
+with-pixels : (size : ℕ) (t : Sheet) (z : Settings) (at : ℕ) → withPixels size t ≡ Read z at → (t ≡ Read z at) × (size ≡ at + 64 * (z .columns * z .rows))
+with-pixels size (Read y to) z at e = pixels-case size y to z at (eqb size (to + 64 * (y .columns * y .rows))) refl e
+with-pixels size Wrong z at e = absurd (never-read e)
 
 module _ (s : List ℕ) (z : Settings) (at : ℕ) (e : sheetIn s ≡ Read z at) where
-  lines-read : linesIn s ≡ Read z at
+  pub sheet-lines : SheetLines s z at
   unfolding sheetIn
-  lines-read = pixels-read (length s) (linesIn s) z at e
+  sheet-lines = lines-were s z at (with-pixels (length s) (linesIn s) z at e .0)
 
-  all-size : length s ≡ at + 64 * (z .columns * z .rows)
+  pub all-size : length s ≡ at + 64 * (z .columns * z .rows)
   unfolding sheetIn
-  all-size = size-case (length s) (linesIn s) z at e
+  all-size = with-pixels (length s) (linesIn s) z at e .1
 
   pub only-sheets : IsSheet z (drop at s) s
   only-sheets =
       record {
-        settings = writable s z at lines-read;
-        whole = sym (take-append-drop at s) ∙ ap (λ (l : List ℕ). l ++ drop at s) (lines-were s z at lines-read);
+        settings = sheet-lines .settings;
+        whole = sym (take-append-drop at s) ∙ ap (λ (l : List ℕ). l ++ drop at s) (sheet-lines .text);
         size = length-drop at s ∙ omega (arith, all-size);
       }
 
   pub pixels-start : at ≡ length (sheetText z)
-  pixels-start =
-      sym (length-take-le at s (omega (arith, all-size))) ∙ ap length (lines-were s z at lines-read)
-
--- a number below 10^j has j digits at most
-length-case : (n j : ℕ) (l : List ℕ) (t : Bool) → ltb n 10 ≡ t → n < 10 ^ suc j → (t ≡ false → length l ≤ j) → length (cond t ((48 + n) ∷ []) (l ++ (48 + n % 10) ∷ [])) ≤ suc j
-length-case n j l true h fits ih = omega arith
-length-case n j l false h fits ih = omega (arith, length-append l ((48 + n % 10) ∷ []), ih refl)
-
-digits-length : (k j n : ℕ) → n < 10 ^ suc j → length (digitsOf k n) ≤ suc j
-unfolding digitsOf
-digits-length zero j n fits = omega arith
-digits-length (suc k) zero n fits = length-case n zero (digitsOf k (n / 10)) (ltb n 10) refl fits (λ t. omega (arith, ltb-false n 10 t))
-digits-length (suc k) (suc j) n fits =
-    length-case n (suc j) (digitsOf k (n / 10)) (ltb n 10) refl fits (λ t. digits-length k j (n / 10) (omega (arith, pow-suc 10 (suc j))))
-
-pub line-size : (k b : ℕ) (text : List ℕ) → length text ≤ b → length (lineOf k text) ≤ length (keyOf k) + b + 1
-unfolding lineOf
-line-size k b text h = simp length-append (omega arith)
-
-pub name-length : (m : ℕ) → m < 16 → length (nameOf m) ≤ 10
-unfolding nameOf
-name-length m h = leb→le (length (nameOf m)) 10 (all-at 16 (λ i. leb (length (nameOf i)) 10) tt m h)
-
-sheet-length : (z : Settings) → Writable z → length (sheetText z) ≤ 105
-unfolding sheetText keyOf
-sheet-length z w =
-    let l0 = line-size 0 10 (nameOf (z .mode)) (name-length (z .mode) (w .known)) in
-    let l1 = line-size 1 10 (decimal (z .depth)) (digits-length 10 9 (z .depth) (omega (arith, w .depth))) in
-    let l2 = line-size 2 1 (decimal (bit (z .flip))) (digits-length 10 0 (bit (z .flip)) (omega (arith, bit-small (z .flip)))) in
-    let l3 = line-size 3 1 (decimal (bit (z .discard))) (digits-length 10 0 (bit (z .discard)) (omega (arith, bit-small (z .discard)))) in
-    let l4 = line-size 4 10 (decimal (z .limit)) (digits-length 10 9 (z .limit) (omega (arith, w .limit))) in
-    let l5 = line-size 5 10 (decimal (z .palette)) (digits-length 10 9 (z .palette) (omega (arith, w .palette))) in
-    let l6 = line-size 6 2 (decimal (z .columns)) (digits-length 10 1 (z .columns) (omega (arith, w .columns))) in
-    let l7 = line-size 7 2 (decimal (z .rows)) (digits-length 10 1 (z .rows) (omega (arith, w .rows))) in
-    simp length-append (omega arith)
-
--- the longest input that is read
-pub longest : (s : List ℕ) (z : Settings) (at : ℕ) → sheetIn s ≡ Read z at → length s ≤ 65641
-longest s z at e =
-    let w = only-sheets s z at e .settings in
-    omega (arith, all-size s z at e, pixels-start s z at e, sheet-length z w, mul-le-mul {n₂ = 32} (w .columns) (w .rows))
+  pixels-start = sym (length-take-le at s (sheet-lines .inside)) ∙ ap length (sheet-lines .text)

@@ -1,8 +1,10 @@
 pub mod Reading
-pub mod Limits
+pub mod Lines
 pub mod Tables
 pub mod Writing
 pub mod Telling
 pub mod Trips
 pub mod Exact
+pub mod Lengths
 pub mod Fitting
+pub mod Refusals

@@ -1,21 +1,25 @@
 -- One step of each definition that reads a sheet, at a place of a list.
 -- Assumes nothing.
-use Prim.Native.Nat.{ℕ, suc, _+_, _*_, _-_, _<_, _≤_}
+use Prim.Native.Nat.{ℕ, _+_, _*_, _-_, _<_, _≤_}
 use mathlib.Core.Path.{_≡_}
-use mathlib.Core.List.{List}
+use mathlib.Core.List.{List, [], _∷_, _++_}
 use mathlib.Core.Bool.{true, false}
 use native.Mathlib.Numerals.{add-one}
 use native.Mathlib.Omega.{arith}
 use lib.ListN.{length, getD, take, drop, set, length-take, length-drop, drop-of-length-le}
-use lib.Seq.{drop-cons, take-all}
+use lib.Dec.{ltb, ltb→lt}
+use lib.Seq.{drop-cons, take-all, take-suc-set}
 use borrow.Author.Tests.{lt-ltb, le-ltb, le-leb, lt-leb, eq-eqb, ne-eqb}
 use Rattle.words.specs.Bytes.{same}
 use Rattle.words.proofs.Bytes.{differ}
+use Rattle.words.proofs.Loops.{all-at}
 use Rattle.mode.specs.Names.{modeNamed}
 use Rattle.picture.specs.declared.Settings.{Settings}
-use Rattle.sheet.specs.Keys.{keyOf}
+use Rattle.sheet.specs.Keys.{keyOf, mode}
 use Rattle.sheet.specs.Numbers.{digitsFrom, numberIn, atMost}
-use Rattle.sheet.specs.Sheet.{modeTold, topOf, textSays, lineSays, lineLength, settingsOf, linesFrom, linesIn, sheetIn}
+use Rattle.sheet.specs.Sheet.{line, sheetLines, modeTold, textSays, lineSays, lineLength, Lines, Numbers, NoLines, linesFrom, linesIn, sheetIn}
+use Rattle.sheet.specs.Inner.{keyCount, lineAt}
+use Rattle.sheet.specs.declared.Line.{Line}
 use Rattle.sheet.specs.declared.Told.{Told}
 use Rattle.sheet.specs.declared.Told.the-variants.{Value, Nothing}
 use Rattle.sheet.specs.declared.Sheet.the-variants.{Read, Wrong}
@@ -82,55 +86,70 @@ module _ (top n : ℕ) {told : Told} (e : told ≡ Value n) where
   pub too-large : top < n → Nothing ≡ atMost top told
   too-large h = rw (e, lt-leb n top h)
 
--- the text of a line, and the line
-pub text-mode : (k : ℕ) (text : List ℕ) → k ≡ 0 → textSays k text ≡ modeTold (modeNamed text)
+-- the text of a line
+pub text-mode : (l : Line) (text : List ℕ) → l .0 ≡ mode → textSays l text ≡ modeTold (modeNamed text)
 unfolding textSays
-text-mode k text e = simp (eq-eqb _ _ e)
+text-mode l text e = simp (eq-eqb _ _ e)
 
-pub text-number : (k : ℕ) (text : List ℕ) → (k ≡ 0 → ⊥) → textSays k text ≡ atMost (topOf k) (numberIn text)
+pub text-number : (l : Line) (text : List ℕ) → (l .0 ≡ mode → ⊥) → textSays l text ≡ atMost (l .1) (numberIn text)
 unfolding textSays
-text-number k text n = simp (ne-eqb _ _ n)
+text-number l text n = simp (ne-eqb _ _ n)
 
 -- what is left of a list
 pub rest-all : (s : List ℕ) (at : ℕ) → take (length s - at) (drop at s) ≡ drop at s
 rest-all s at = take-all (length s - at) (drop at s) (omega (arith, length-drop at s))
 
 -- the line, with a key of n bytes as the code has it
-module _ (k : ℕ) (line key : List ℕ) (n : ℕ) (e : key ≡ keyOf k) (size : n ≡ length (keyOf k)) where
-  pub line-short : length line < n → lineSays k line ≡ Nothing
+module _ (l : Line) (bytes key : List ℕ) (n : ℕ) (e : key ≡ keyOf (l .0)) (size : n ≡ length (keyOf (l .0))) where
+  pub line-short : length bytes < n → lineSays l bytes ≡ Nothing
   unfolding lineSays
-  line-short h = simp (differ (take (length (keyOf k)) line) (keyOf k) (λ q. omega (arith, length-take (length (keyOf k)) line)))
+  line-short h = simp (differ (take (length (keyOf (l .0))) bytes) (keyOf (l .0)) (λ q. omega (arith, length-take (length (keyOf (l .0))) bytes)))
 
-  pub line-keyed : same (take n line) key ≡ true → lineSays k line ≡ textSays k (take (length line - n) (drop n line))
+  pub line-keyed : same (take n bytes) key ≡ true → lineSays l bytes ≡ textSays l (take (length bytes - n) (drop n bytes))
   unfolding lineSays
-  line-keyed t = rw (rest-all line n, size, rw (size, e) at t)
+  line-keyed t = rw (rest-all bytes n, size, rw (size, e) at t)
 
-  pub line-other : same (take n line) key ≡ false → lineSays k line ≡ Nothing
+  pub line-other : same (take n bytes) key ≡ false → lineSays l bytes ≡ Nothing
   unfolding lineSays
   line-other t = rw (rw (size, e) at t)
 
+-- the eight lines, as the code counts them, and their keys
+pub inside : (k : ℕ) → k < 8 → k < length sheetLines
+unfolding sheetLines
+inside k h = h
+
+pub outside : (k : ℕ) → 8 ≤ k → length sheetLines ≤ k
+unfolding sheetLines
+outside k h = h
+
+pub key-known : (k : ℕ) → k < length sheetLines → lineAt k .0 < keyCount
+unfolding sheetLines lineAt
+key-known k h = ltb→lt (lineAt k .0) keyCount (all-at (length sheetLines) (λ i. ltb (lineAt i .0) keyCount) tt k h)
+
 -- the lines from line k on, by what was found of it: rest is what is left of s, end the line's length
-module _ (s : List ℕ) (k : ℕ) (vs : List ℕ) (at end : ℕ) (rest : List ℕ) (r : rest ≡ drop at s) (h : k < 8) (e : end ≡ lineLength rest) where
-  one-more : 8 - k ≡ suc (8 - (k + 1))
-  one-more = omega arith
+module _ (s values : List ℕ) (k at end : ℕ) (rest : List ℕ) (r : rest ≡ drop at s) (h : k < length sheetLines) (e : end ≡ lineLength rest) where
+  here : drop k sheetLines ≡ lineAt k ∷ drop (k + 1) sheetLines
+  unfolding lineAt
+  here = rw (add-one) (drop-cons sheetLines k (line 0 0) h)
 
-  pub lines-cut : length rest ≤ end → linesFrom s (8 - k) k vs at ≡ Wrong
+  pub lines-cut : length rest ≤ end → linesFrom (drop k sheetLines) s at (take k values) ≡ NoLines
   unfolding linesFrom
-  lines-cut l = rw one-more (simp (← r, ← e, le-ltb _ _ l))
+  lines-cut l = rw here (simp (← r, ← e, le-ltb _ _ l))
 
-  pub lines-wrong : end < length rest → lineSays k (take end rest) ≡ Nothing → linesFrom s (8 - k) k vs at ≡ Wrong
+  pub lines-wrong : {l : Line} → l ≡ lineAt k → end < length rest → lineSays l (take end rest) ≡ Nothing → linesFrom (drop k sheetLines) s at (take k values) ≡ NoLines
   unfolding linesFrom
-  lines-wrong l w = rw one-more (simp (← r, ← e, lt-ltb _ _ l, w))
+  lines-wrong q h w = rw (here, ← q) (simp (← r, ← e, lt-ltb _ _ h, w))
 
-  pub lines-more : (v : ℕ) → end < length rest → lineSays k (take end rest) ≡ Value v → linesFrom s (8 - k) k vs at ≡ linesFrom s (8 - (k + 1)) (k + 1) (set vs k v) (at + (end + 1))
+  pub lines-more : {l : Line} (v : ℕ) → l ≡ lineAt k → k < length values → end < length rest → lineSays l (take end rest) ≡ Value v
+      → linesFrom (drop k sheetLines) s at (take k values) ≡ linesFrom (drop (k + 1) sheetLines) s (at + (end + 1)) (take (k + 1) (set values k v))
   unfolding linesFrom
-  lines-more v l w = rw one-more (simp (← r, ← e, lt-ltb _ _ l, w))
+  lines-more v q inside h w =
+      let next : take (k + 1) (set values k v) ≡ take k values ++ v ∷ [] = rw add-one (take-suc-set values k v inside) in
+      rw (here, next, ← q) (simp (← r, ← e, lt-ltb _ _ h, w))
 
-pub lines-end : (s : List ℕ) (k : ℕ) (vs : List ℕ) (at : ℕ) → 8 ≤ k → linesFrom s (8 - k) k vs at ≡ Read (settingsOf vs) at
+pub lines-end : (s values : List ℕ) (k at : ℕ) → length sheetLines ≤ k → length values ≤ k → linesFrom (drop k sheetLines) s at (take k values) ≡ Numbers values at
 unfolding linesFrom
-lines-end s k vs at h =
-    let e : 8 - k ≡ 0 = omega arith in
-    rw e
+lines-end s values k at h full = rw (drop-of-length-le sheetLines h, take-all k values full)
 
 -- the pixels after the lines
 module _ (s : List ℕ) {z : Settings} {at : ℕ} (e : linesIn s ≡ Read z at) (h : at ≤ length s) where

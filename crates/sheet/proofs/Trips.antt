@@ -6,21 +6,23 @@ use mathlib.Core.List.{List, [], _∷_, _++_, append-assoc, append-nil}
 use mathlib.Core.Bool.{Bool, true, false, cond}
 use native.Mathlib.Nat.{pow-suc, zero-add, add-zero}
 use native.Mathlib.Omega.{arith}
-use lib.Dec.{ltb, eqb, eqb→eq}
-use lib.ListN.{length, getD, set, drop, replicate, length-append, List·getD-append}
+use lib.Dec.{T, ltb, eqb, eqb→eq}
+use lib.ListN.{length, getD, drop, length-append, List·getD-append}
 use lib.Seq.{take-append-seam, drop-append-seam, drop-drop, append-snoc}
 use borrow.Author.Tests.{lt-ltb, le-ltb, ltb-true, ltb-false, eq-eqb, ne-eqb, le-leb}
 use Rattle.words.specs.Bytes.{bit, same}
-use Rattle.words.proofs.Loops.{all-at}
-use Rattle.mode.specs.Names.{nameOf}
+use Rattle.words.proofs.Loops.{both-left, both-right, all-at}
+use Rattle.mode.specs.Names.{nameOf, modeNamed}
 use Rattle.mode.proofs.ByMode.{by-mode}
 use Rattle.picture.specs.declared.Settings.{Settings}
-use Rattle.sheet.specs.Keys.{keyOf, lineOf}
-use Rattle.sheet.specs.Numbers.{largest, digitsOf, decimal, digitsFrom, numberIn}
-use Rattle.sheet.specs.Sheet.{topOf, textSays, lineSays, lineLength, settingsOf, linesFrom, linesIn, sheetIn, sheetText, Writable}
+use Rattle.sheet.specs.Keys.{keyOf, lineOf, mode}
+use Rattle.sheet.specs.Numbers.{largest, digitsOf, decimal, digitsFrom, numberIn, atMost}
+use Rattle.sheet.specs.Sheet.{sheetLines, modeTold, textSays, lineSays, lineLength, Lines, Numbers, linesFrom, linesIn, sheetIn, settingsOf, valuesOf, textFor, linesText, sheetText, Within}
+use Rattle.sheet.specs.declared.Line.{Line}
 use Rattle.sheet.specs.declared.Told.the-variants.{Value}
 use Rattle.sheet.specs.declared.Sheet.the-variants.{Read}
-use Rattle.sheet.proofs.Reading.{number-digits, text-number}
+use Rattle.sheet.proofs.Reading.{number-digits}
+use Rattle.sheet.proofs.Lines.{isLine, areLines, key-free, mode-top, number-top, eight-lines}
 
 -- a digit is read as what it was written from
 digit-back : (d n : ℕ) (rest : List ℕ) → d ≤ 9 → n * 10 + d ≤ largest → digitsFrom ((48 + d) ∷ rest) n ≡ digitsFrom rest (n * 10 + d)
@@ -118,10 +120,6 @@ unfolding digitsOf lineLength
 digits-free zero n = refl
 digits-free (suc k) n = free-case n (digitsOf k (n / 10)) (ltb n 10) (digits-free k (n / 10))
 
-key-free : (k : ℕ) → k < 8 → lineLength (keyOf k) ≡ length (keyOf k)
-unfolding keyOf lineLength
-key-free k h = eqb→eq (lineLength (keyOf k)) (length (keyOf k)) (all-at 8 (λ i. eqb (lineLength (keyOf i)) (length (keyOf i))) tt k h)
-
 name-free : (m : ℕ) → m < 16 → lineLength (nameOf m) ≡ length (nameOf m)
 unfolding nameOf lineLength
 name-free m h = eqb→eq (lineLength (nameOf m)) (length (nameOf m)) (all-at 16 (λ i. eqb (lineLength (nameOf i)) (length (nameOf i))) tt m h)
@@ -131,88 +129,80 @@ same-refl : (a : List ℕ) → same a a ≡ true
 same-refl [] = refl
 same-refl (x ∷ xs) = rw (eq-eqb x x refl) (same-refl xs)
 
-line-back : (k : ℕ) (text : List ℕ) → lineSays k (keyOf k ++ text) ≡ textSays k text
+line-back : (l : Line) (text : List ℕ) → lineSays l (keyOf (l .0) ++ text) ≡ textSays l text
 unfolding lineSays
-line-back k text = rw (take-append-seam (keyOf k) text, same-refl (keyOf k), drop-append-seam (keyOf k) text)
+line-back l text = rw (take-append-seam (keyOf (l .0)) text, same-refl (keyOf (l .0)), drop-append-seam (keyOf (l .0)) text)
 
--- so far: the lines before line k are read, n are left, and rest is what stands after them
-record Reached (s : List ℕ) (n k : ℕ) (vs : List ℕ) (at : ℕ) (rest : List ℕ) : Type 0 where
-  whole : linesIn s ≡ linesFrom s n k vs at
-  left : drop at s ≡ rest
+-- what its text tells
+name-back : (m : ℕ) → m < 16 → modeTold (modeNamed (nameOf m)) ≡ Value m
+unfolding nameOf
+name-back = by-mode (λ (m : ℕ). modeTold (modeNamed (nameOf m)) ≡ Value m) refl refl refl refl refl refl refl refl refl refl refl refl refl refl refl refl
 
-module _ {s vs rest : List ℕ} {n k at : ℕ} (text : List ℕ) (v : ℕ) where
-  reach : lineLength (keyOf k) ≡ length (keyOf k) → lineLength text ≡ length text → textSays k text ≡ Value v → Reached s (suc n) k vs at (lineOf k text ++ rest)
-      → Reached s n (k + 1) (set vs k v) (at + length (lineOf k text)) rest
-  unfolding linesFrom lineLength lineOf
-  reach fk ft told r =
-      let all = keyOf k ++ text in
-      let here : drop at s ≡ all ++ 10 ∷ rest = r .left ∙ append-snoc all 10 rest in
-      let ends : lineLength (all ++ 10 ∷ rest) ≡ length all = line-joined all (10 ∷ rest) (free-both (keyOf k) text fk ft) ∙ add-zero (length all) in
+module _ (l : Line) (t : T (isLine l)) (v : ℕ) (h : v ≤ l .1) where
+  back-case : (named : Bool) → eqb (l .0) mode ≡ named → cond named (modeTold (modeNamed (cond named (nameOf v) (decimal v)))) (atMost (l .1) (numberIn (cond named (nameOf v) (decimal v)))) ≡ Value v
+  back-case true e = name-back v (omega (arith, mode-top l t e))
+  back-case false e = rw (number-back v (omega (arith, number-top l t e)), le-leb v (l .1) h)
+
+  text-back : textSays l (textFor l v) ≡ Value v
+  unfolding textSays textFor
+  text-back = back-case (eqb (l .0) mode) refl
+
+  text-case : (named : Bool) → eqb (l .0) mode ≡ named → lineLength (cond named (nameOf v) (decimal v)) ≡ length (cond named (nameOf v) (decimal v))
+  text-case true e = name-free v (omega (arith, mode-top l t e))
+  text-case false e = digits-free 10 v
+
+  text-free : lineLength (textFor l v) ≡ length (textFor l v)
+  unfolding textFor
+  text-free = text-case (eqb (l .0) mode) refl
+
+-- one line more: rest is what stands after it
+module _ (l : Line) (t : T (isLine l)) (v : ℕ) (h : v ≤ l .1) (s rest : List ℕ) (at : ℕ) (e : drop at s ≡ lineOf (l .0) (textFor l v) ++ rest) where
+  all : List ℕ
+  all = keyOf (l .0) ++ textFor l v
+
+  size : length (lineOf (l .0) (textFor l v)) ≡ length all + 1
+  unfolding lineOf all
+  size = length-append all (10 ∷ [])
+
+  line-read : (ls : List Line) (vs : List ℕ) → linesFrom (l ∷ ls) s at vs ≡ linesFrom ls s (at + length (lineOf (l .0) (textFor l v))) (vs ++ v ∷ [])
+  unfolding linesFrom lineLength lineOf all
+  line-read ls vs =
+      let here : drop at s ≡ all ++ 10 ∷ rest = e ∙ append-snoc all 10 rest in
+      let ends : lineLength (all ++ 10 ∷ rest) ≡ length all = line-joined all (10 ∷ rest) (free-both (keyOf (l .0)) (textFor l v) (key-free l t) (text-free l t v h)) ∙ add-zero (length all) in
       let more : length all < length (all ++ 10 ∷ rest) = omega (arith, length-append all (10 ∷ rest)) in
-      let size : length (all ++ 10 ∷ []) ≡ length all + 1 = length-append all (10 ∷ []) in
-      record {
-        whole = r .whole ∙ rw (here, ends, lt-ltb (length all) (length (all ++ 10 ∷ rest)) more, take-append-seam all (10 ∷ rest), line-back k text ∙ told, size);
-        left = sym (drop-drop (length (all ++ 10 ∷ [])) at s) ∙ ap (drop (length (all ++ 10 ∷ []))) (r .left) ∙ drop-append-seam (all ++ 10 ∷ []) rest;
-      }
+      rw (here, ends, lt-ltb (length all) (length (all ++ 10 ∷ rest)) more, take-append-seam all (10 ∷ rest), line-back l (textFor l v) ∙ text-back l t v h, size)
 
--- what the texts tell
-mode-back : (m : ℕ) → m < 16 → textSays 0 (nameOf m) ≡ Value m
-unfolding textSays nameOf
-mode-back = by-mode (λ (m : ℕ). textSays 0 (nameOf m) ≡ Value m) refl refl refl refl refl refl refl refl refl refl refl refl refl refl refl refl
+  line-left : drop (at + length (lineOf (l .0) (textFor l v))) s ≡ rest
+  line-left =
+      let bytes = lineOf (l .0) (textFor l v) in
+      sym (drop-drop (length bytes) at s) ∙ ap (drop (length bytes)) e ∙ drop-append-seam bytes rest
 
-number-told : (k n : ℕ) → (k ≡ 0 → ⊥) → n ≤ topOf k → n ≤ largest → textSays k (decimal n) ≡ Value n
-number-told k n other most small =
-    text-number k (decimal n) other ∙ rw (number-back n small, le-leb n (topOf k) most)
+-- lines are read as the numbers that they were written from
+pub lines-back : (ls : List Line) → T (areLines ls) → (us : List ℕ) → Within ls us → (s vs rest : List ℕ) (at : ℕ) → drop at s ≡ linesText ls us ++ rest → linesFrom ls s at vs ≡ Numbers (vs ++ us) (at + length (linesText ls us))
+unfolding linesFrom linesText
+lines-back [] t [] w s vs rest at e = rw (append-nil, add-zero)
+lines-back [] t (u ∷ us) w s vs rest at e = absurd w
+lines-back (l ∷ ls) t [] w s vs rest at e = absurd w
+lines-back (l ∷ ls) t (u ∷ us) w s vs rest at e =
+    let mine = both-left (isLine l) (areLines ls) t in
+    let bytes = lineOf (l .0) (textFor l u) in
+    let here : drop at s ≡ bytes ++ (linesText ls us ++ rest) = e ∙ append-assoc bytes (linesText ls us) rest in
+    let long : at + length bytes + length (linesText ls us) ≡ at + length (bytes ++ linesText ls us) = omega (arith, length-append bytes (linesText ls us)) in
+    line-read l mine u (w .0) s (linesText ls us ++ rest) at here ls vs
+    ∙ lines-back ls (both-right (isLine l) (areLines ls) t) us (w .1) s (vs ++ u ∷ []) rest (at + length bytes) (line-left l mine u (w .0) s (linesText ls us ++ rest) at here)
+    ∙ rw (append-snoc vs u us, long)
 
 bit-back : (b : Bool) → eqb (bit b) 1 ≡ b
 bit-back true = refl
 bit-back false = refl
 
-pub bit-small : (b : Bool) → bit b ≤ 1
-bit-small true = omega arith
-bit-small false = omega arith
+values-told : (z : Settings) → settingsOf (valuesOf z) ≡ z
+unfolding settingsOf
+values-told z = rw (bit-back (z .flip), bit-back (z .discard))
 
-module _ (z : Settings) (w : Writable z) (pixels : List ℕ) where
-  s : List ℕ
-  s = sheetText z ++ pixels
-
-  start : Reached s 8 0 (replicate 8 0) 0 (lineOf 0 (nameOf (z .mode)) ++ (lineOf 1 (decimal (z .depth)) ++ (lineOf 2 (decimal (bit (z .flip))) ++ (lineOf 3 (decimal (bit (z .discard))) ++ (lineOf 4 (decimal (z .limit)) ++ (lineOf 5 (decimal (z .palette)) ++ (lineOf 6 (decimal (z .columns)) ++ (lineOf 7 (decimal (z .rows)) ++ pixels))))))))
-  unfolding linesIn sheetText s
-  start = record { whole = refl; left = simp append-assoc }
-
-  number-reach : {vs rest : List ℕ} {n k at : ℕ} (v : ℕ) → k < 8 → (k ≡ 0 → ⊥) → v ≤ topOf k → v ≤ largest → Reached s (suc n) k vs at (lineOf k (decimal v) ++ rest)
-      → Reached s n (k + 1) (set vs k v) (at + length (lineOf k (decimal v))) rest
-  number-reach {k} v h other most small r = reach (decimal v) v (key-free k h) (digits-free 10 v) (number-told k v other most small) r
-
-  end : ℕ
-  end = 0 + length (lineOf 0 (nameOf (z .mode))) + length (lineOf 1 (decimal (z .depth))) + length (lineOf 2 (decimal (bit (z .flip)))) + length (lineOf 3 (decimal (bit (z .discard)))) + length (lineOf 4 (decimal (z .limit))) + length (lineOf 5 (decimal (z .palette))) + length (lineOf 6 (decimal (z .columns))) + length (lineOf 7 (decimal (z .rows)))
-
-  reached : Reached s 0 8 (z .mode ∷ z .depth ∷ bit (z .flip) ∷ bit (z .discard) ∷ z .limit ∷ z .palette ∷ z .columns ∷ z .rows ∷ []) end pixels
-  unfolding topOf end
-  reached =
-      number-reach (z .rows) (omega arith) (λ e. omega arith) (w .rows) (omega (arith, w .rows))
-      (number-reach (z .columns) (omega arith) (λ e. omega arith) (w .columns) (omega (arith, w .columns))
-      (number-reach (z .palette) (omega arith) (λ e. omega arith) (w .palette) (w .palette)
-      (number-reach (z .limit) (omega arith) (λ e. omega arith) (w .limit) (w .limit)
-      (number-reach (bit (z .discard)) (omega arith) (λ e. omega arith) (bit-small (z .discard)) (omega (arith, bit-small (z .discard)))
-      (number-reach (bit (z .flip)) (omega arith) (λ e. omega arith) (bit-small (z .flip)) (omega (arith, bit-small (z .flip)))
-      (number-reach (z .depth) (omega arith) (λ e. omega arith) (w .depth) (w .depth)
-      (reach (nameOf (z .mode)) (z .mode) (key-free 0 (omega arith)) (name-free (z .mode) (w .known)) (mode-back (z .mode) (w .known)) start)))))))
-
-  end-right : end ≡ length (sheetText z)
-  unfolding end sheetText
-  end-right = simp length-append (omega arith)
-
-  told-back : settingsOf (z .mode ∷ z .depth ∷ bit (z .flip) ∷ bit (z .discard) ∷ z .limit ∷ z .palette ∷ z .columns ∷ z .rows ∷ []) ≡ z
-  unfolding settingsOf
-  told-back = rw (bit-back (z .flip), bit-back (z .discard))
-
-  pub lines-back : linesIn (sheetText z ++ pixels) ≡ Read z (length (sheetText z))
-  unfolding s linesFrom
-  lines-back = reached .whole ∙ rw (told-back, end-right)
-
-  pub sheet-back : length pixels ≡ 64 * (z .columns * z .rows) → sheetIn (sheetText z ++ pixels) ≡ Read z (length (sheetText z))
-  unfolding sheetIn
-  sheet-back size =
-      let all : length (sheetText z ++ pixels) ≡ length (sheetText z) + 64 * (z .columns * z .rows) = length-append (sheetText z) pixels ∙ rw size in
-      rw (lines-back, eq-eqb _ _ all)
+pub sheet-back : (z : Settings) → Within sheetLines (valuesOf z) → (pixels : List ℕ) → length pixels ≡ 64 * (z .columns * z .rows) → sheetIn (sheetText z ++ pixels) ≡ Read z (length (sheetText z))
+unfolding sheetIn linesIn sheetText
+sheet-back z w pixels size =
+    let read = lines-back sheetLines eight-lines (valuesOf z) w (sheetText z ++ pixels) [] pixels 0 refl in
+    let all : length (sheetText z ++ pixels) ≡ length (sheetText z) + 64 * (z .columns * z .rows) = length-append (sheetText z) pixels ∙ rw size in
+    rw (read, values-told z, zero-add (length (sheetText z)), eq-eqb _ _ all)

@@ -16,14 +16,21 @@ use Rattle.sheet.specs.declared.Sheet.{Sheet}
 use Rattle.sheet.specs.declared.Sheet.the-variants.{Read, Wrong}
 
 -- "The tile buffer has 65,536 bytes." The map of 32 x 32 entries has 2,048 at most.
-abbrev pub tileRoom : ℕ
-tileRoom = 65536
+abbrev pub tileSpace : ℕ
+tileSpace = 65536
 
-abbrev pub mapRoom : ℕ
-mapRoom = 2048
+abbrev pub mapSpace : ℕ
+mapSpace = 2048
+
+-- So much input tells every sheet from what is longer, and so much output holds every text.
+abbrev pub inputSpace : ℕ
+inputSpace = 65642
+
+abbrev pub outSpace : ℕ
+outSpace = 67840
 
 abbrev pub pictureSays : Settings → List ℕ → ℕ
-pictureSays z pixels = convertSays z pixels tileRoom mapRoom
+pictureSays z pixels = convertSays z pixels tileSpace mapSpace
 
 -- "Program only, before all others: settings lines not as below" (14); "the other numbers follow the table".
 abbrev pub sheetNumber : List ℕ → Sheet → ℕ

@@ -2,7 +2,7 @@
 -- Assumes nothing.
 use Prim.Native.Nat.{ℕ}
 use mathlib.Core.List.{List, [], _∷_, _++_}
-use lib.ListN.{getD}
+use lib.ListN.{length, getD}
 use Rattle.words.specs.Bytes.{bit}
 use Rattle.words.specs.Loops.{each}
 use Rattle.mode.specs.Names.{nameOf}
@@ -32,7 +32,7 @@ unfoldable pub numberLine : List ℕ → ℕ → List ℕ
 numberLine values i = lineOf (getD reportKeys i 0) (decimal (getD values i 0))
 
 unfoldable pub reportText : Settings → Picture → List ℕ
-reportText z p = lineOf mode (nameOf (z .mode)) ++ each 9 (numberLine (reportValues z p))
+reportText z p = lineOf mode (nameOf (z .mode)) ++ each (length reportKeys) (numberLine (reportValues z p))
 
 -- "A refusal writes `refused=N` and a newline."
 unfoldable pub refusedText : ℕ → List ℕ

@@ -1,8 +1,11 @@
 // The program on slices: reads a sheet of settings with a picture's pixels, and writes the report.
+mod keys;
+
 use mode::Named;
 use picture::Picture;
 use picture::Settings;
 use words::Written;
+use words::refusal;
 ghost use mathlib.Core.Path.{_≡_};
 ghost use mathlib.Core.List.{_++_};
 ghost use Prim.Native.Nat.{_+_, _≤_, _<_};
@@ -11,13 +14,13 @@ ghost use Rattle.words.specs.Loops.{each};
 ghost use Rattle.mode.specs.Names.{nameOf, modeNamed};
 ghost use Rattle.sheet.specs.Keys.{keyOf, lineOf};
 ghost use Rattle.sheet.specs.Numbers.{decimal, digitsFrom, numberIn, atMost};
-ghost use Rattle.sheet.specs.Sheet.{modeTold, textSays, lineSays, lineLength, settingsOf, linesIn, sheetIn};
-ghost use Rattle.sheet.specs.Report.{numberLine, reportText, refusedText};
-ghost use Rattle.sheet.specs.Inner.{IsText, Holds, textIn, Puts, Tellable, Reportable};
+ghost use Rattle.sheet.specs.Sheet.{sheetLines, modeTold, textSays, lineSays, lineLength, settingsOf, linesIn, sheetIn};
+ghost use Rattle.sheet.specs.Report.{reportKeys, numberLine, reportText, refusedText};
+ghost use Rattle.sheet.specs.Inner.{textMost, lineMost, numbersMost, reportMost, keyCount, lineAt, IsText, Holds, textIn, Puts, Tellable, Reportable};
 ghost use Rattle.sheet.specs.Program.{pictureSays, pictureTells, numberOf, textOf, Ran};
 
-// Each key with its `=`, zeros after it to ten bytes, and its length: those of the sheet's eight lines in order, then those of the report alone.
-const KEYS: [[u8; 10]; 13] = [
+// Each key with its `=`, zeros after it to ten bytes, and its length.
+const KEYS: [[u8; TEXT_MOST]; keys::COUNT] = [
     *b"mode=\0\0\0\0\0",
     *b"depth=\0\0\0\0",
     *b"flip=\0\0\0\0\0",
@@ -33,17 +36,59 @@ const KEYS: [[u8; 10]; 13] = [
     *b"refused=\0\0",
 ];
 
-const KEY_LENGTHS: [usize; 13] = [5, 6, 5, 8, 6, 8, 8, 5, 6, 10, 10, 9, 8];
+const KEY_LENGTHS: [usize; keys::COUNT] = [5, 6, 5, 8, 6, 8, 8, 5, 6, 10, 10, 9, 8];
 
-const MODE: usize = 0;
+// The largest number, and the most columns and rows.
+const LARGEST: u32 = 4294967295;
 
-const REFUSED: usize = 12;
+const SIDE_MOST: u32 = 32;
 
-// The largest number of each of the sheet's lines.
-const TOPS: [u32; 8] = [15, 4294967295, 1, 1, 4294967295, 4294967295, 32, 32];
+// A line of a sheet: its key, and the largest number that it tells. The text of the mode's line is a name.
+struct Line(usize, u32);
 
-// The keys of the report's lines of numbers: depth, flip, discard, columns, rows, tiles, discarded, tilebytes, mapbytes.
-const REPORT_KEYS: [usize; 9] = [1, 2, 3, 6, 7, 8, 9, 10, 11];
+const LINE_COUNT: usize = 8;
+
+const LINES: [Line; LINE_COUNT] = [
+    Line(keys::MODE, 15),
+    Line(keys::DEPTH, LARGEST),
+    Line(keys::FLIP, 1),
+    Line(keys::DISCARD, 1),
+    Line(keys::LIMIT, LARGEST),
+    Line(keys::PALETTE, LARGEST),
+    Line(keys::COLUMNS, SIDE_MOST),
+    Line(keys::ROWS, SIDE_MOST),
+];
+
+// The report's lines of numbers.
+const NUMBER_COUNT: usize = 9;
+
+const NUMBER_KEYS: [usize; NUMBER_COUNT] = [
+    keys::DEPTH,
+    keys::FLIP,
+    keys::DISCARD,
+    keys::COLUMNS,
+    keys::ROWS,
+    keys::TILES,
+    keys::DISCARDED,
+    keys::TILE_BYTES,
+    keys::MAP_BYTES,
+];
+
+// The most bytes: of a text, of a line with its key and newline, of the report's lines.
+const TEXT_MOST: usize = 10;
+
+const LINE_MOST: usize = 21;
+
+// The space for a picture's tiles and for its map.
+const TILE_SPACE: usize = 65536;
+
+const MAP_SPACE: usize = 2048;
+
+// One byte more than the longest sheet with the most pixels, 105 + 65,536: what is longer shows.
+pub const INPUT_SPACE: usize = 65642;
+
+// Enough for the report's lines, all tile bytes and all map bytes.
+pub const OUT_SPACE: usize = 67840;
 
 // What a text tells.
 pub enum Told {
@@ -59,13 +104,13 @@ pub enum Sheet {
 
 // A text of ten bytes at most: those of an array from one place up to another.
 struct Text {
-    pub bytes: [u8; 10],
+    pub bytes: [u8; TEXT_MOST],
     pub from: usize,
     pub to: usize,
 }
 
 fn key(k: usize) -> Text
-    requires { ⌜ k < 13 ⌝ }
+    requires { ⌜ k < keyCount ⌝ }
     ensures { λ r. ⌜ Holds r (keyOf k) ⌝ }
 {
     Text {
@@ -91,8 +136,8 @@ fn name(m: u32) -> Text
 fn numeral(n: u32) -> Text
     ensures { λ r. ⌜ Holds r (decimal n) ⌝ }
 {
-    let mut bytes = [0u8; 10];
-    let mut from: usize = 10;
+    let mut bytes = [0u8; TEXT_MOST];
+    let mut from: usize = TEXT_MOST;
     let mut left = n;
     while 9 < left {
         from -= 1;
@@ -104,7 +149,7 @@ fn numeral(n: u32) -> Text
     Text {
         bytes,
         from,
-        to: 10,
+        to: TEXT_MOST,
     }
 }
 
@@ -191,48 +236,55 @@ fn mode_told(s: &[u8]) -> Told
     }
 }
 
-// What the text of line k tells.
-fn text_says(k: usize, text: &[u8]) -> Told
-    requires { ⌜ k < 8 ⌝ }
-    ensures { λ r. ⌜ r ≡ textSays k (now (text .entry)) ⌝ }
+fn line_at(k: usize) -> Line
+    requires { ⌜ k < length sheetLines ⌝ }
+    ensures { λ r. ⌜ r ≡ lineAt k ⌝ }
 {
-    if k == MODE {
-        return mode_told(text);
-    }
-    at_most(TOPS[k], number(text))
+    LINES[k]
 }
 
-// What line k tells, its newline left out.
-fn line_says(k: usize, line: &[u8]) -> Told
-    requires { ⌜ k < 8 ⌝ }
-    ensures { λ r. ⌜ r ≡ lineSays k (now (line .entry)) ⌝ }
+// What the text of a line tells.
+fn text_says(line: Line, text: &[u8]) -> Told
+    ensures { λ r. ⌜ r ≡ textSays line (now (text .entry)) ⌝ }
 {
-    let key = key(k);
-    let bytes = key.bytes;
+    let key = line.0;
+    if key == keys::MODE {
+        return mode_told(text);
+    }
+    at_most(line.1, number(text))
+}
+
+// What a line tells, its newline left out.
+fn line_says(line: Line, bytes: &[u8]) -> Told
+    requires { ⌜ line .0 < keyCount ⌝ }
+    ensures { λ r. ⌜ r ≡ lineSays line (now (bytes .entry)) ⌝ }
+{
+    let key = key(line.0);
+    let key_bytes = key.bytes;
     let from = key.from;
     let to = key.to;
     let n = to - from;
-    if line.len() < n {
+    if bytes.len() < n {
         return Told::Nothing;
     }
-    if words::same_bytes(&line[..n], &bytes[from..to]) {
-        return text_says(k, &line[n..]);
+    if words::same_bytes(&bytes[..n], &key_bytes[from..to]) {
+        return text_says(line, &bytes[n..]);
     }
     Told::Nothing
 }
 
-fn settings(values: [u32; 8]) -> Settings
+fn settings(values: [u32; LINE_COUNT]) -> Settings
     ensures { λ r. ⌜ r ≡ settingsOf values ⌝ }
 {
     Settings {
-        mode: values[0],
-        depth: values[1],
-        flip: values[2] == 1,
-        discard: values[3] == 1,
-        limit: values[4],
-        palette: values[5],
-        columns: values[6],
-        rows: values[7],
+        mode: values[keys::MODE],
+        depth: values[keys::DEPTH],
+        flip: values[keys::FLIP] == 1,
+        discard: values[keys::DISCARD] == 1,
+        limit: values[keys::LIMIT],
+        palette: values[keys::PALETTE],
+        columns: values[keys::COLUMNS],
+        rows: values[keys::ROWS],
     }
 }
 
@@ -240,16 +292,16 @@ fn settings(values: [u32; 8]) -> Settings
 fn read_lines(s: &[u8]) -> Sheet
     ensures { λ r. ⌜ r ≡ linesIn (now (s .entry)) ⌝ }
 {
-    let mut values = [0u32; 8];
+    let mut values = [0u32; LINE_COUNT];
     let mut at: usize = 0;
     let mut k: usize = 0;
-    while k < 8 {
+    while k < LINE_COUNT {
         let rest = &s[at..];
         let end = line_length(rest);
         if rest.len() <= end {
             return Sheet::Wrong;
         }
-        let Told::Value(v) = line_says(k, &rest[..end]) else {
+        let Told::Value(v) = line_says(line_at(k), &rest[..end]) else {
             return Sheet::Wrong;
         };
         values[k] = v;
@@ -282,17 +334,13 @@ fn put(out: &mut [u8], at: usize, s: &[u8]) -> usize
     requires { ⌜ at + length (now s) ≤ length (now out) ⌝ }
     ensures { λ r. ⌜ Puts (now (s .entry)) at (now (out .entry)) r (now (out .exit)) ⌝ }
 {
-    let mut i: usize = 0;
-    while i < s.len() {
-        out[at + i] = s[i];
-        i += 1;
-    }
-    at + i
+    words::put(out, at, s);
+    at + s.len()
 }
 
 fn put_text(out: &mut [u8], at: usize, t: Text) -> usize
-    requires { ⌜ IsText t × (at + 10 ≤ length (now out)) ⌝ }
-    ensures { λ r. ⌜ Puts (textIn t) at (now (out .entry)) r (now (out .exit)) × (r ≤ at + 10) ⌝ }
+    requires { ⌜ IsText t × (at + textMost ≤ length (now out)) ⌝ }
+    ensures { λ r. ⌜ Puts (textIn t) at (now (out .entry)) r (now (out .exit)) × (r ≤ at + textMost) ⌝ }
 {
     let bytes = t.bytes;
     let from = t.from;
@@ -302,8 +350,8 @@ fn put_text(out: &mut [u8], at: usize, t: Text) -> usize
 
 // A line: its key, the text and a newline.
 fn put_line(out: &mut [u8], at: usize, k: usize, t: Text) -> usize
-    requires { ⌜ (k < 13) × IsText t × (at + 21 ≤ length (now out)) ⌝ }
-    ensures { λ r. ⌜ Puts (lineOf k (textIn t)) at (now (out .entry)) r (now (out .exit)) × (r ≤ at + 21) ⌝ }
+    requires { ⌜ (k < keyCount) × IsText t × (at + lineMost ≤ length (now out)) ⌝ }
+    ensures { λ r. ⌜ Puts (lineOf k (textIn t)) at (now (out .entry)) r (now (out .exit)) × (r ≤ at + lineMost) ⌝ }
 {
     let text = put_text(out, at, key(k));
     let end = put_text(out, text, t);
@@ -311,14 +359,14 @@ fn put_line(out: &mut [u8], at: usize, k: usize, t: Text) -> usize
 }
 
 // The report's lines of numbers.
-fn put_numbers(out: &mut [u8], at: usize, values: [u32; 9]) -> usize
-    requires { ⌜ at + 189 ≤ length (now out) ⌝ }
-    ensures { λ r. ⌜ Puts (each 9 (numberLine values)) at (now (out .entry)) r (now (out .exit)) × (r ≤ at + 189) ⌝ }
+fn put_numbers(out: &mut [u8], at: usize, values: [u32; NUMBER_COUNT]) -> usize
+    requires { ⌜ at + numbersMost ≤ length (now out) ⌝ }
+    ensures { λ r. ⌜ Puts (each (length reportKeys) (numberLine values)) at (now (out .entry)) r (now (out .exit)) × (r ≤ at + numbersMost) ⌝ }
 {
     let mut end = at;
     let mut i: usize = 0;
-    while i < 9 {
-        end = put_line(out, end, REPORT_KEYS[i], numeral(values[i]));
+    while i < NUMBER_COUNT {
+        end = put_line(out, end, NUMBER_KEYS[i], numeral(values[i]));
         i += 1;
     }
     end
@@ -326,10 +374,10 @@ fn put_numbers(out: &mut [u8], at: usize, values: [u32; 9]) -> usize
 
 // All the lines of the report.
 fn put_report(out: &mut [u8], z: Settings, p: Picture) -> usize
-    requires { ⌜ Tellable z p × (210 ≤ length (now out)) ⌝ }
-    ensures { λ r. ⌜ Puts (reportText z p) 0 (now (out .entry)) r (now (out .exit)) × (r ≤ 210) ⌝ }
+    requires { ⌜ Tellable z p × (reportMost ≤ length (now out)) ⌝ }
+    ensures { λ r. ⌜ Puts (reportText z p) 0 (now (out .entry)) r (now (out .exit)) × (r ≤ reportMost) ⌝ }
 {
-    let end = put_line(out, 0, MODE, name(z.mode));
+    let end = put_line(out, 0, keys::MODE, name(z.mode));
     let values = [
         z.depth,
         words::flag(z.flip),
@@ -344,12 +392,12 @@ fn put_report(out: &mut [u8], z: Settings, p: Picture) -> usize
     put_numbers(out, end, values)
 }
 
-// The whole text, where out has room for it.
+// The whole text, where out has space for it.
 fn tell(number: u32, text: &[u8], out: &mut [u8]) -> Written
     ensures { λ r. ⌜ Ran number (now (text .entry)) (now (out .entry)) r (now (out .exit)) ⌝ }
 {
     if out.len() < text.len() {
-        return words::refused(11);
+        return words::refused(refusal::OUTPUT);
     }
     let end = put(out, 0, text);
     Written {
@@ -361,8 +409,8 @@ fn tell(number: u32, text: &[u8], out: &mut [u8]) -> Written
 fn refuse(number: u32, out: &mut [u8]) -> Written
     ensures { λ r. ⌜ Ran number (refusedText number) (now (out .entry)) r (now (out .exit)) ⌝ }
 {
-    let mut text = [0u8; 32];
-    let end = put_line(&mut text, 0, REFUSED, numeral(number));
+    let mut text = [0u8; LINE_MOST];
+    let end = put_line(&mut text, 0, keys::REFUSED, numeral(number));
     tell(number, &text[..end], out)
 }
 
@@ -371,7 +419,7 @@ fn report(z: Settings, p: Picture, tiles: &[u8], map: &[u8], out: &mut [u8]) -> 
     requires { ⌜ Reportable z p (now tiles) (now map) ⌝ }
     ensures { λ r. ⌜ Ran 0 (reportText z p ++ now (tiles .entry) ++ now (map .entry)) (now (out .entry)) r (now (out .exit)) ⌝ }
 {
-    let mut text = [0u8; 67840];
+    let mut text = [0u8; OUT_SPACE];
     let lines = put_report(&mut text, z, p);
     let middle = put(&mut text, lines, tiles);
     let end = put(&mut text, middle, map);
@@ -383,8 +431,8 @@ fn answer(z: Settings, pixels: &[u8], out: &mut [u8]) -> Written
     requires { ⌜ z .mode < 16 ⌝ }
     ensures { λ r. ⌜ Ran (pictureSays z (now (pixels .entry))) (pictureTells z (now (pixels .entry))) (now (out .entry)) r (now (out .exit)) ⌝ }
 {
-    let mut tiles = [0u8; 65536];
-    let mut map = [0u8; 2048];
+    let mut tiles = [0u8; TILE_SPACE];
+    let mut map = [0u8; MAP_SPACE];
     let p = picture::convert(z, pixels, &mut tiles, &mut map);
     if p.refusal != 0 {
         return refuse(p.refusal, out);
@@ -403,7 +451,7 @@ pub fn run(input: &[u8], out: &mut [u8]) -> Written
             return answer(z, &input[at..], out);
         }
         Sheet::Wrong => {
-            return refuse(14, out);
+            return refuse(refusal::SETTINGS, out);
         }
     }
 }

@@ -1,8 +1,7 @@
 -- The picture's refusal, or its report with the bytes that were written.
 use native.Mathlib.Omega.{arith}
-use Prim.Native.Nat.{ℕ}
-use lib.ListN.{length-take, length-replicate}
-use Rattle.sheet.proofs.Telling.{rooms, reportable, tiles-inside, map-inside, refused-picture, told-picture}
+use lib.ListN.{length-take}
+use Rattle.sheet.proofs.Telling.{own-buffers, reportable, tiles-inside, map-inside, refused-picture, told-picture}
 use borrow.Author.Needs.{needs}
 use Rattle.sheet.proofs.answer.Statement.{statement}
 use Rattle.sheet.proofs.answer.Tie as tie
@@ -23,31 +22,38 @@ same-length : tie.Need-same-length
 same-length c = search needs
 
 returns : tie.Need-returns
-returns c = refused-picture _ _ _ _ _ _ _ _ (c .before .before .before .before .before .before .before .before .convert .ensures) (rooms _ _ (length-replicate {A = ℕ} 65536 0) (length-replicate {A = ℕ} 2048 0)) (c .before .before .before .before .if1 .taken) (c .before .before .refuse .ensures)
+returns c =
+    let b = c .before .before .before .before in
+    refused-picture (b .before .before .before .before .convert .ensures) (own-buffers _ _) (b .if1 .taken) (c .before .before .refuse .ensures)
 
 array-share-prefix-tiles : tie.Need-array-share-prefix-tiles
-array-share-prefix-tiles c = tiles-inside _ _ _ _ _ _ _ _ (c .before .before .before .before .convert .ensures) (c .if1 .left)
+array-share-prefix-tiles c = tiles-inside (c .before .before .before .before .convert .ensures) (c .if1 .left)
 
 slice-aggregate-report : tie.Need-slice-aggregate-report
-slice-aggregate-report c = simp length-take (omega (arith, tiles-inside _ _ _ _ _ _ _ _ (c .before .before .before .before .before .convert .ensures) (c .before .if1 .left)))
+slice-aggregate-report c = simp length-take (omega (arith, tiles-inside (c .before .before .before .before .before .convert .ensures) (c .before .if1 .left)))
 
 array-share-prefix-map : tie.Need-array-share-prefix-map
-array-share-prefix-map c = map-inside _ _ _ _ _ _ _ _ (c .before .before .before .before .before .convert .ensures) (c .before .if1 .left)
+array-share-prefix-map c = map-inside (c .before .before .before .before .before .convert .ensures) (c .before .if1 .left)
 
 slice-aggregate-report-2 : tie.Need-slice-aggregate-report-2
-slice-aggregate-report-2 c = simp length-take (omega (arith, map-inside _ _ _ _ _ _ _ _ (c .before .before .before .before .before .before .convert .ensures) (c .before .before .if1 .left)))
+slice-aggregate-report-2 c =
+    let b = c .before .before in
+    simp length-take (omega (arith, map-inside (b .before .before .before .before .convert .ensures) (b .if1 .left)))
 
 report-requires : tie.Need-report-requires
 report-requires c κs =
-    let made = c .before .before .before .before .before .before .before .convert .ensures in
-    let done = c .before .before .before .if1 .left in
-    reportable _ _ _ _ (c .before .before .before .before .before .before .before .before .before .before .before .before .pre) (search needs) (search needs) (tiles-inside _ _ _ _ _ _ _ _ made done) (map-inside _ _ _ _ _ _ _ _ made done)
+    let b = c .before .before .before in
+    let made = b .before .before .before .before in
+    let fit = made .convert .ensures in
+    reportable _ _ _ _ (made .before .before .before .before .before .pre) (search needs) (search needs) (tiles-inside fit (b .if1 .left)) (map-inside fit (b .if1 .left))
 
 same-length-2 : tie.Need-same-length-2
 same-length-2 c = search needs
 
 returns-2 : tie.Need-returns-2
-returns-2 c = told-picture _ _ _ _ _ _ _ _ (c .before .before .before .before .before .before .before .before .before .before .convert .ensures) (rooms _ _ (length-replicate {A = ℕ} 65536 0) (length-replicate {A = ℕ} 2048 0)) (c .before .before .before .before .before .before .if1 .left) (c .before .before .report .ensures)
+returns-2 c =
+    let b = c .before .before .before .before .before .before in
+    told-picture (b .before .before .before .before .convert .ensures) (own-buffers _ _) (b .if1 .left) (c .before .before .report .ensures)
 
 pub answer-spec : {M : Type 1} → statement M
 answer-spec =

@@ -16,8 +16,9 @@ sub-n c = search needs
 
 returns : tie.Need-returns
 returns c =
-    let key = c .before .before .key .ensures in
-    sym (line-short (c .before .before .before .before .args .k) (c .before .before .before .before .args .line .now) _ _ (key .content) (held-length key) (c .if1 .taken))
+    let b = c .before .before in
+    let a = b .before .before .args in
+    sym (line-short (a .line) (a .bytes .now) _ _ (b .key .ensures .content) (held-length (b .key .ensures)) (c .if1 .taken))
 
 slice-aggregate-same-bytes : tie.Need-slice-aggregate-same-bytes
 slice-aggregate-same-bytes c = simp length-take (omega arith)
@@ -48,14 +49,17 @@ text-says-requires c κs = search needs
 
 returns-2 : tie.Need-returns-2
 returns-2 c =
-    let key = c .before .before .before .before .before .before .before .before .before .key .ensures in
-    c .text-says .ensures
-    ∙ sym (line-keyed (c .before .before .before .before .before .before .before .before .before .before .before .args .k) (c .before .before .before .before .before .before .before .before .before .before .before .args .line .now) _ _ (key .content) (held-length key) (sym (c .before .before .before .same-bytes .ensures) ∙ c .before .before .if2 .taken))
+    let e = c .before .before .before in
+    let b = e .before .before .before .before .before .before in
+    let a = b .before .before .args in
+    let alike = sym (e .same-bytes .ensures) ∙ c .before .before .if2 .taken in
+    c .text-says .ensures ∙ sym (line-keyed (a .line) (a .bytes .now) _ _ (b .key .ensures .content) (held-length (b .key .ensures)) alike)
 
 returns-3 : tie.Need-returns-3
 returns-3 c =
-    let key = c .before .before .before .before .before .before .before .key .ensures in
-    sym (line-other (c .before .before .before .before .before .before .before .before .before .args .k) (c .before .before .before .before .before .before .before .before .before .args .line .now) _ _ (key .content) (held-length key) (sym (c .before .same-bytes .ensures) ∙ c .if2 .left))
+    let b = c .before .before .before .before .before .before .before in
+    let a = b .before .before .args in
+    sym (line-other (a .line) (a .bytes .now) _ _ (b .key .ensures .content) (held-length (b .key .ensures)) (sym (c .before .same-bytes .ensures) ∙ c .if2 .left))
 
 pub line-says-spec : {M : Type 1} → statement M
 line-says-spec =

@@ -6,12 +6,13 @@ use mathlib.Core.List.{_++_, append-nil}
 use native.Mathlib.Omega.{arith}
 use lib.ListN.{length, drop, length-set}
 use Rattle.sheet.specs.Numbers.{digitsOf, decimal}
+use Rattle.sheet.specs.Inner.{textMost}
 use Rattle.sheet.proofs.Writing.{digit-more, last-held, fewer, some-left}
 use Rattle.sheet.proofs.numeral.Statement.{statement}
 use Rattle.sheet.proofs.numeral.Tie as tie
 
 abbrev Inv-loop : tie.InvT-loop
-Inv-loop n bytes₀ from₀ left₀ bytes from left = (0 < from) × (from ≤ 10) × (left < 10 ^ from) × (length bytes ≡ 10) × (decimal n ≡ digitsOf from left ++ drop from bytes)
+Inv-loop n bytes₀ from₀ left₀ bytes from left = (0 < from) × (from ≤ textMost) × (left < 10 ^ from) × (length bytes ≡ textMost) × (decimal n ≡ digitsOf from left ++ drop from bytes)
 
 abbrev μ-loop : tie.MeasureT-loop
 μ-loop n bytes₀ from₀ left₀ bytes from left = left

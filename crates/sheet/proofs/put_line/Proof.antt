@@ -24,10 +24,10 @@ same-length : tie.Need-same-length
 same-length c = search needs
 
 returns : tie.Need-returns
-returns c = (
-  line-put _ _ _ _ _ _ _ _ _ _ _ (c .before .before .before .before .before .before .before .before .before .before .before .before .key .ensures) (c .before .before .before .before .before .before .before .before .before .before .before .put-text .ensures .0) (c .before .before .before .before .before .before .before .put-text2 .ensures .0) (c .before .before .put .ensures),
-  omega arith,
-)
+returns c =
+    let b = c .before .before .before .before .before .before .before in
+    let a = b .before .before .before .before in
+    (line-put _ (a .before .key .ensures) (a .put-text .ensures .0) (b .put-text2 .ensures .0) (c .before .before .put .ensures), omega arith)
 
 pub put-line-spec : {M : Type 1} → statement M
 put-line-spec =

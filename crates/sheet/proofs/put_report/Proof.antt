@@ -29,7 +29,10 @@ same-length : tie.Need-same-length
 same-length c = search needs
 
 returns : tie.Need-returns
-returns c = (report-put _ _ _ _ _ _ _ _ (c .before .before .before .before .before .before .before .before .before .before .before .name .ensures) (c .before .before .before .before .before .before .before .before .before .before .put-line .ensures .0) (c .before .before .before .before .before .before .before .flag .ensures .0) (c .before .before .before .before .before .before .flag2 .ensures .0) (c .before .before .put-numbers .ensures .0), search needs)
+returns c =
+    let b = c .before .before .before .before .before .before in
+    let a = b .before .before .before .before in
+    (report-put _ _ (a .before .name .ensures) (a .put-line .ensures .0) (b .before .flag .ensures .0) (b .flag2 .ensures .0) (c .before .before .put-numbers .ensures .0), search needs)
 
 pub put-report-spec : {M : Type 1} → statement M
 put-report-spec =

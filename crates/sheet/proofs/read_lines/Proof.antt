@@ -1,24 +1,28 @@
--- The lines before k told the values, and the rest is read from place at on.
-use Rattle.picture.specs.declared.Settings.{Settings}
-use Rattle.sheet.specs.declared.Sheet.the-variants.{Read}
+-- The lines before line k told the first k values, and the rest is read from place at on.
 use borrow.Author.Needs.{needs}
-use Prim.Native.Nat.{_-_, _≤_}
-use mathlib.Core.Path.{_≡_, refl, sym, ap, _∙_}
+use Prim.Native.Nat.{_-_, _<_, _≤_}
+use mathlib.Core.Path.{_≡_, refl, sym, ap, _∙_, subst}
+use mathlib.Core.List.{[]}
 use native.Mathlib.Omega.{arith}
-use lib.ListN.{length, length-take, length-drop, length-set}
-use Rattle.sheet.specs.Sheet.{linesIn, linesFrom}
-use Rattle.sheet.proofs.Reading.{rest-all, lines-cut, lines-wrong, lines-more, lines-end}
+use lib.ListN.{length, take, drop, length-take, length-drop, length-set}
+use Rattle.picture.specs.declared.Settings.{Settings}
+use Rattle.sheet.specs.Sheet.{sheetLines, sheetOf, lineSays, linesFrom, linesIn}
+use Rattle.sheet.specs.Inner.{keyCount}
+use Rattle.sheet.specs.declared.Line.{Line}
+use Rattle.sheet.specs.declared.Sheet.the-variants.{Read}
+use Rattle.sheet.proofs.Reading.{rest-all, inside, outside, key-known, lines-cut, lines-wrong, lines-more, lines-end}
 use Rattle.sheet.proofs.read_lines.Statement.{statement}
 use Rattle.sheet.proofs.read_lines.Tie as tie
 
 abbrev Inv-loop : tie.InvT-loop
-Inv-loop s values₀ at₀ k₀ values at k = (k ≤ 8) × (at ≤ length s) × (length values ≡ 8) × (linesIn s ≡ linesFrom s (8 - k) k values at)
+Inv-loop s values₀ at₀ k₀ values at k =
+    (k ≤ length sheetLines) × (at ≤ length s) × (length values ≡ length sheetLines) × (linesFrom sheetLines s 0 [] ≡ linesFrom (drop k sheetLines) s at (take k values))
 
 abbrev μ-loop : tie.MeasureT-loop
-μ-loop s values₀ at₀ k₀ values at k = 8 - k
+μ-loop s values₀ at₀ k₀ values at k = length sheetLines - k
 
 loop-holds : tie.Need-loop-holds Inv-loop μ-loop
-unfolding linesIn
+unfolding sheetLines
 loop-holds c = (omega arith, omega arith, search needs, refl)
 
 sub-rest : tie.Need-sub-rest Inv-loop μ-loop
@@ -34,18 +38,26 @@ line-length-requires : tie.Need-line-length-requires Inv-loop μ-loop
 line-length-requires c κs = search needs
 
 returns : tie.Need-returns Inv-loop μ-loop
+unfolding linesIn
 returns c =
-    let l = c .before .before .before .before .loop in
-    let s = c .before .before .before .before .before .before .args .s .now in
+    let b = c .before .before .before in
+    let l = b .before .loop in
+    let s = b .before .before .before .args .s .now in
     sym
+    (ap sheetOf
     (l .inv .3
-    ∙ lines-cut s (l .k) (l .values) (l .at) (c .before .line-length .result) _ (rest-all s (l .at)) (c .before .before .before .loop-test .taken) (c .before .line-length .ensures .0) (c .if1 .taken))
+    ∙ lines-cut s (l .values) (l .k) (l .at) (c .before .line-length .result) _ (rest-all s (l .at)) (inside (l .k) (b .loop-test .taken)) (c .before .line-length .ensures .0) (c .if1 .taken)))
+
+line-at-requires : tie.Need-line-at-requires Inv-loop μ-loop
+line-at-requires c κs = inside _ (c .before .before .before .loop-test .taken)
 
 slice-aggregate-line-says : tie.Need-slice-aggregate-line-says Inv-loop μ-loop
 slice-aggregate-line-says c = simp (length-take, length-drop) (omega arith)
 
 line-says-requires : tie.Need-line-says-requires Inv-loop μ-loop
-line-says-requires c κs = search needs
+line-says-requires c κs =
+    let b = c .before .before .before .before .before in
+    subst (λ (l : Line). l .0 < keyCount) (sym (c .before .line-at .ensures)) (key-known _ (inside _ (b .loop-test .taken)))
 
 enum-known-v : tie.Need-enum-known-v Inv-loop μ-loop
 enum-known-v c = search needs
@@ -54,12 +66,16 @@ enum-told : tie.Need-enum-told Inv-loop μ-loop
 enum-told c = search needs
 
 returns-2 : tie.Need-returns-2 Inv-loop μ-loop
+unfolding linesIn
 returns-2 c =
-    let l = c .before .before .before .before .before .before .before .before .loop in
-    let s = c .before .before .before .before .before .before .before .before .before .before .args .s .now in
+    let e = c .before .before .before .before .before in
+    let b = e .before .before .before in
+    let l = b .before .loop in
+    let s = b .before .before .before .args .s .now in
     sym
+    (ap sheetOf
     (l .inv .3
-    ∙ lines-wrong s (l .k) (l .values) (l .at) (c .before .before .before .before .before .line-length .result) _ (rest-all s (l .at)) (c .before .before .before .before .before .before .before .loop-test .taken) (c .before .before .before .before .before .line-length .ensures .0) (c .before .before .before .before .if1 .left) (sym (c .before .before .line-says .ensures) ∙ c .enum-told .given .1))
+    ∙ lines-wrong s (l .values) (l .k) (l .at) (e .before .line-length .result) _ (rest-all s (l .at)) (inside (l .k) (b .loop-test .taken)) (e .before .line-length .ensures .0) (c .before .before .before .before .line-at .ensures) (e .if1 .left) (sym (c .before .before .line-says .ensures) ∙ c .enum-told .given .1)))
 
 mul-values : tie.Need-mul-values Inv-loop μ-loop
 mul-values c = search needs
@@ -77,25 +93,34 @@ add-k : tie.Need-add-k Inv-loop μ-loop
 add-k c = search needs
 
 loop-less : tie.Need-loop-less Inv-loop μ-loop
+unfolding sheetLines
 loop-less c = search needs
 
 loop-again : tie.Need-loop-again Inv-loop μ-loop
 loop-again c =
-    let l = c .before .before .before .before .before .before .before .before .before .loop in
-    let s = c .before .before .before .before .before .before .before .before .before .before .before .args .s .now in
-    let end = c .before .before .before .before .before .before .line-length .result in (
+    let e = c .before .before .before .before .before .before in
+    let b = e .before .before .before in
+    let l = b .before .loop in
+    let s = b .before .before .before .args .s .now in
+    let here = inside (l .k) (b .loop-test .taken) in
+    let v = c .before .v .given in (
       omega arith,
-      omega (arith, simp (length-take, length-drop) at (c .before .before .before .before .before .if1 .left)),
+      omega (arith, simp (length-take, length-drop) at (e .if1 .left)),
       simp length-set (omega arith),
       l .inv .3
-          ∙ lines-more s (l .k) (l .values) (l .at) end _ (rest-all s (l .at)) (c .before .before .before .before .before .before .before .before .loop-test .taken) (c .before .before .before .before .before .before .line-length .ensures .0) (c .before .v .given .0 .0) (c .before .before .before .before .before .if1 .left) (sym (c .before .before .before .line-says .ensures) ∙ c .before .v .given .1),
+          ∙ lines-more s (l .values) (l .k) (l .at) (e .before .line-length .result) _ (rest-all s (l .at)) here (e .before .line-length .ensures .0) (v .0 .0) (c .before .before .before .before .before .line-at .ensures) (omega arith) (e .if1 .left) (sym (c .before .before .before .line-says .ensures) ∙ v .1),
     )
 
 settings-requires : tie.Need-settings-requires Inv-loop μ-loop
 settings-requires c κs = search needs
 
 returns-3 : tie.Need-returns-3 Inv-loop μ-loop
-returns-3 c = ap (λ (z : Settings). Read z (c .before .before .loop .at)) (c .settings .ensures) ∙ sym (c .before .before .loop .inv .3 ∙ lines-end (c .before .before .before .before .args .s .now) (c .before .before .loop .k) (c .before .before .loop .values) (c .before .before .loop .at) (omega arith))
+unfolding linesIn
+returns-3 c =
+    let l = c .before .before .loop in
+    let all : length sheetLines ≤ l .k = outside (l .k) (c .before .loop-test .left) in
+    ap (λ (z : Settings). Read z (l .at)) (c .settings .ensures)
+    ∙ sym (ap sheetOf (l .inv .3 ∙ lines-end (c .before .before .before .before .args .s .now) (l .values) (l .k) (l .at) all (omega arith)))
 
 pub read-lines-spec : {M : Type 1} → statement M
 read-lines-spec =
@@ -109,6 +134,7 @@ read-lines-spec =
     part-rest-end
     line-length-requires
     returns
+    line-at-requires
     slice-aggregate-line-says
     line-says-requires
     enum-known-v

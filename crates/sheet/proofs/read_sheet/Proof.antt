@@ -2,7 +2,8 @@
 use mathlib.Core.Path.{sym, _∙_}
 use native.Mathlib.Omega.{arith}
 use Rattle.sheet.proofs.Reading.{sheet-read, sheet-other, sheet-wrong}
-use Rattle.sheet.proofs.Limits.{bounded, area-small}
+use Rattle.sheet.proofs.Lines.{area-small}
+use Rattle.sheet.proofs.Exact.{lines-were}
 use borrow.Author.Needs.{needs}
 use Rattle.sheet.proofs.read_sheet.Statement.{statement}
 use Rattle.sheet.proofs.read_sheet.Tie as tie
@@ -20,23 +21,34 @@ cast-pixels-2 : tie.Need-cast-pixels-2
 cast-pixels-2 c = search needs
 
 mul-pixels : tie.Need-mul-pixels
-mul-pixels c = omega (arith, area-small _ _ _ (bounded _ _ _ (sym (c .before .before .before .before .before .read-lines .ensures) ∙ c .before .before .before .z .given .1)))
+mul-pixels c =
+    let b = c .before .before .before in
+    let read = sym (b .before .before .read-lines .ensures) ∙ b .z .given .1 in
+    omega (arith, area-small (lines-were _ _ _ read .limits))
 
 mul-pixels-2 : tie.Need-mul-pixels-2
-mul-pixels-2 c = omega (arith, area-small _ _ _ (bounded _ _ _ (sym (c .before .before .before .before .before .read-lines .ensures) ∙ c .before .before .before .z .given .1)))
+mul-pixels-2 c =
+    let b = c .before .before .before in
+    let read = sym (b .before .before .read-lines .ensures) ∙ b .z .given .1 in
+    omega (arith, area-small (lines-were _ _ _ read .limits))
 
 sub-if1 : tie.Need-sub-if1
-sub-if1 c = bounded _ _ _ (sym (c .before .before .before .before .before .read-lines .ensures) ∙ c .before .before .before .z .given .1) .inside
+sub-if1 c =
+    let b = c .before .before .before in
+    let read = sym (b .before .before .read-lines .ensures) ∙ b .z .given .1 in
+    lines-were _ _ _ read .inside
 
 returns : tie.Need-returns
 returns c =
-    let read = sym (c .before .before .before .before .before .before .read-lines .ensures) ∙ c .before .before .before .before .z .given .1 in
-    sheet-read _ read (bounded _ _ _ read .inside) (c .if1 .taken)
+    let b = c .before .before .before .before in
+    let read = sym (b .before .before .read-lines .ensures) ∙ b .z .given .1 in
+    sheet-read _ read (lines-were _ _ _ read .inside) (c .if1 .taken)
 
 returns-2 : tie.Need-returns-2
 returns-2 c =
-    let read = sym (c .before .before .before .before .before .before .read-lines .ensures) ∙ c .before .before .before .before .z .given .1 in
-    sheet-other _ read (bounded _ _ _ read .inside) (c .if1 .left)
+    let b = c .before .before .before .before in
+    let read = sym (b .before .before .read-lines .ensures) ∙ b .z .given .1 in
+    sheet-other _ read (lines-were _ _ _ read .inside) (c .if1 .left)
 
 enum-told : tie.Need-enum-told
 enum-told c = search needs

@@ -28,7 +28,9 @@ same-length : tie.Need-same-length
 same-length c = search needs
 
 returns : tie.Need-returns
-returns c = refused-told _ _ _ (c .before .before .before .before .before .before .before .numeral .ensures) (told-front _ _ _ _ _ (search needs) (c .before .before .before .before .before .before .put-line .ensures .0) (c .before .before .tell .ensures))
+returns c =
+    let b = c .before .before .before .before .before .before in
+    refused-told (b .before .numeral .ensures) (told-front (search needs) (b .put-line .ensures .0) (c .before .before .tell .ensures))
 
 pub refuse-spec : {M : Type 1} → statement M
 refuse-spec =

@@ -38,7 +38,10 @@ same-length c = search needs
 
 returns : tie.Need-returns
 returns c =
-    told-front _ _ _ _ _ (search needs) (puts-more (puts-more (c .before .before .before .before .before .before .before .before .before .before .before .before .put-report .ensures .0) (c .before .before .before .before .before .before .before .before .before .put .ensures)) (c .before .before .before .before .before .before .put2 .ensures)) (c .before .before .tell .ensures)
+    let third = c .before .before .before .before .before .before in
+    let second = third .before .before .before in
+    let first = second .before .before .before in
+    told-front (search needs) (puts-more (puts-more (first .put-report .ensures .0) (second .put .ensures)) (third .put2 .ensures)) (c .before .before .tell .ensures)
 
 pub report-spec : {M : Type 1} → statement M
 report-spec =

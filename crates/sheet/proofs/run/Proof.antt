@@ -1,7 +1,7 @@
 -- A sheet is answered as its picture, anything else with 14.
 use mathlib.Core.Path.{sym, _∙_}
 use native.Mathlib.Omega.{arith}
-use Rattle.sheet.proofs.Limits.{sheet-bounded}
+use Rattle.sheet.proofs.Exact.{sheet-lines}
 use Rattle.sheet.proofs.Telling.{ran-read, ran-wrong}
 use borrow.Author.Needs.{needs}
 use Rattle.sheet.proofs.run.Statement.{statement}
@@ -14,22 +14,30 @@ enum-known-z : tie.Need-enum-known-z
 enum-known-z c = search needs
 
 sub-answer : tie.Need-sub-answer
-sub-answer c = sheet-bounded _ _ _ (sym (c .before .before .before .read-sheet .ensures) ∙ c .before .z .given .1) .inside
+sub-answer c =
+    let b = c .before in
+    sheet-lines _ _ _ (sym (b .before .before .read-sheet .ensures) ∙ b .z .given .1) .inside
 
 part-answer-start : tie.Need-part-answer-start
-part-answer-start c = sheet-bounded _ _ _ (sym (c .before .before .before .read-sheet .ensures) ∙ c .before .z .given .1) .inside
+part-answer-start c =
+    let b = c .before in
+    sheet-lines _ _ _ (sym (b .before .before .read-sheet .ensures) ∙ b .z .given .1) .inside
 
 part-answer-end : tie.Need-part-answer-end
 part-answer-end c = search needs
 
 answer-requires : tie.Need-answer-requires
-answer-requires c κs = omega (arith, sheet-bounded _ _ _ (sym (c .before .before .before .before .before .read-sheet .ensures) ∙ c .before .before .before .z .given .1) .known)
+answer-requires c κs =
+    let b = c .before .before .before in
+    omega (arith, sheet-lines _ _ _ (sym (b .before .before .read-sheet .ensures) ∙ b .z .given .1) .limits .known)
 
 same-length : tie.Need-same-length
 same-length c = search needs
 
 returns : tie.Need-returns
-returns c = ran-read _ _ _ _ (sym (c .before .before .before .before .before .before .before .before .read-sheet .ensures) ∙ c .before .before .before .before .before .before .z .given .1) (c .before .before .answer .ensures)
+returns c =
+    let b = c .before .before .before .before .before .before in
+    ran-read _ (sym (b .before .before .read-sheet .ensures) ∙ b .z .given .1) (c .before .before .answer .ensures)
 
 enum-told : tie.Need-enum-told
 enum-told c = search needs
@@ -41,7 +49,9 @@ same-length-2 : tie.Need-same-length-2
 same-length-2 c = search needs
 
 returns-2 : tie.Need-returns-2
-returns-2 c = ran-wrong _ _ (sym (c .before .before .before .before .before .before .read-sheet .ensures) ∙ c .before .before .before .before .enum-told .given .1) (c .before .before .refuse .ensures)
+returns-2 c =
+    let b = c .before .before .before .before in
+    ran-wrong _ (sym (b .before .before .read-sheet .ensures) ∙ b .enum-told .given .1) (c .before .before .refuse .ensures)
 
 pub run-spec : {M : Type 1} → statement M
 run-spec =
