@@ -14,7 +14,7 @@ use Rattle.tileset.specs.Matched.{Apart}
 use Rattle.tileset.specs.Keeping.{keepAll, repeats}
 use Rattle.tileset.specs.Numbers.{rowCells, firstCell}
 use Rattle.tileset.specs.Reading.{readCount, readableSays, readSet, Reads}
-use Rattle.tileset.specs.History.{setTiles, Call, addCall, resetCall, lookCall, Promised, numberOf, setAfter, storeAfter, lastSet, lastStore, Calls}
+use Rattle.tileset.specs.History.{setTiles, Call, addCall, resetCall, lookCall, Promised, callNumber, setAfter, storeAfter, lastSet, lastStore, Calls}
 use Rattle.tileset.specs.History.{Since, sinceReset, sinceStart, tilesRead, sinceRead, sinceCall, sinceCalls, asked, callOf, callsOf}
 use Rattle.tileset.specs.declared.Set.{Set}
 use Rattle.tileset.specs.declared.SetAnswer.{SetAnswer}
@@ -46,7 +46,7 @@ pub reads-refused : (m d w h : ℕ) (flips : Bool) (bytes store : List ℕ) {r :
     → (r .refusal ≡ 0 → ⊥) → (r .set ≡ noSet) × (after ≡ store)
 reads-refused m d w h flips bytes store a some = adds-refused a some
 
-pub call-refused : (z : Set) (s : List ℕ) (c : Call) → Promised z s c → (numberOf c ≡ 0 → ⊥) → (setAfter z c ≡ z) × (storeAfter s c ≡ s)
+pub call-refused : (z : Set) (s : List ℕ) (c : Call) → Promised z s c → (callNumber c ≡ 0 → ⊥) → (setAfter z c ≡ z) × (storeAfter s c ≡ s)
 call-refused z s (addCall p r after) k some = adds-refused k some
 call-refused z s (resetCall r) k some = (answer-refused (says z) (emptied z) z k some, refl)
 call-refused z s (lookCall p r) k some = (refl, refl)

@@ -32,10 +32,10 @@ Promised z store (resetCall r) = r ≡ answeredSet (setSays (z .mode) (z .depth)
 Promised z store (lookCall p r) = r ≡ placed (lookSays z (length store) (length p)) (foundIn z store p)
 
 -- Its number, and the set and the store that the caller has after it, and after some.
-abbrev pub numberOf : Call → ℕ
-numberOf (addCall p r after) = r .refusal
-numberOf (resetCall r) = r .refusal
-numberOf (lookCall p r) = r .refusal
+abbrev pub callNumber : Call → ℕ
+callNumber (addCall p r after) = r .refusal
+callNumber (resetCall r) = r .refusal
+callNumber (lookCall p r) = r .refusal
 
 abbrev pub setAfter : Set → Call → Set
 setAfter z (addCall p r after) = r .set
