@@ -6,7 +6,8 @@ use mathlib.Core.List.{List, [], _∷_}
 use Prim.Native.Nat.{ℕ, zero, suc, _<_, _≤_}
 use native.Mathlib.Nat.{suc-ne-zero}
 use lib.Dec.{ltb}
-use lib.ListN.{length, getD}
+use lib.ListN.{length, getD, take, drop}
+use lib.Seq.{take-at, drop-at}
 use borrow.Author.Tests.{lt-ltb, le-ltb}
 use Rattle.words.specs.Answers.{_when_, firstApplying, unless, written, numbered, overwrite, Wrote}
 use Rattle.words.specs.declared.Written.{Written}
@@ -86,3 +87,25 @@ module _ {k : ℕ} {bytes before after : List ℕ} {r : Written} where
         answer = a ∙ ap (λ (i : ℕ). written i (length bytes)) (sym e);
         lent = out ∙ sym (when-done k (overwrite before bytes) before e);
       }
+
+-- what a caller sees of a call that writes bytes
+module _ {k : ℕ} {bytes before after : List ℕ} {r : Written} (wrote : Wrote k bytes before r after) where
+  told : r .refusal ≡ k
+  told = ap (λ (x : Written). x .refusal) (wrote .answer)
+
+  -- "A refusal returns its number, all else returned 0 or nothing; lent bytes .. are untouched."
+  pub refused-untouched : (r .refusal ≡ 0 → ⊥) → (r .written ≡ 0) × (after ≡ before)
+  refused-untouched h =
+      let due : k ≡ 0 → ⊥ = λ z. h (told ∙ z) in
+      (
+        ap (λ (x : Written). x .written) (wrote .answer) ∙ when-refused k (length bytes) 0 due,
+        wrote .lent ∙ when-refused k (overwrite before bytes) before due,
+      )
+
+  -- "On success, bytes after the written length are untouched", and those before it are the call's
+  pub done-written : r .refusal ≡ 0 → (take (r .written) after ≡ bytes) × (drop (r .written) after ≡ drop (r .written) before)
+  done-written done =
+      let zero : k ≡ 0 = sym told ∙ done in
+      let size : r .written ≡ length bytes = ap (λ (x : Written). x .written) (wrote .answer) ∙ when-done k (length bytes) 0 zero in
+      let left : after ≡ overwrite before bytes = wrote .lent ∙ when-done k (overwrite before bytes) before zero in
+      rw (left, size) (take-at bytes (drop (length bytes) before) (length bytes) refl, drop-at bytes (drop (length bytes) before) (length bytes) refl)
