@@ -121,25 +121,28 @@ pub fn places_of(m: Mode) -> Places
     }
 }
 
-// The bits that the mode has for each field are its row's.
+// The bits that the mode has for each field are its row's, read at once so that the row is looked up once.
 pub fn first_misfit(m: Mode, e: Mapentry) -> Misfit
     requires { ⌜ m .0 < 16 ⌝ }
     ensures { λ r. ⌜ r ≡ misfitOf (m .0) e ⌝ }
 {
-    if !words::holds(m.tile_bits(), e.tile) {
+    let tile = m.tile_bits();
+    let palette = m.palette_bits();
+    let flips = m.flip_bits();
+    let priority = m.priority_bits();
+    if !words::holds(tile, e.tile) {
         return Misfit::Tile;
     }
-    if !words::holds(m.palette_bits(), e.palette) {
+    if !words::holds(palette, e.palette) {
         return Misfit::Palette;
     }
-    let flips = m.flip_bits();
     if !words::holds(flips, words::flag(e.flip_h)) {
         return Misfit::Flip;
     }
     if !words::holds(flips, words::flag(e.flip_v)) {
         return Misfit::Flip;
     }
-    if !words::holds(m.priority_bits(), words::flag(e.priority)) {
+    if !words::holds(priority, words::flag(e.priority)) {
         return Misfit::Priority;
     }
     Misfit::Nothing
