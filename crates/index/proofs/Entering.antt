@@ -16,10 +16,9 @@ use Rattle.tileset.specs.Finding.{tilesIn, lookUp, isFound}
 use Rattle.tileset.specs.declared.Found.{Found}
 use Rattle.tileset.specs.declared.Found.the-variants.{At, Nothing}
 use Rattle.tileset.proofs.Matched.{look-some}
-use Rattle.tileset.proofs.Stores.{tiles-put}
-use Rattle.index.specs.Key.{key}
-use Rattle.index.specs.Index.{bucketOf, Skip, Gap, Indexed, headOf, Enters, Entered}
-use Rattle.index.proofs.Chains.{some-where, tiles-long}
+use Rattle.tileset.proofs.Stores.{tiles-put, tiles-long}
+use Rattle.index.specs.Inner.{key, bucketOf, Skip, Gap, Indexed, headOf, Enters, Entered}
+use Rattle.index.proofs.Chains.{some-where}
 
 -- ---- an index of no tiles
 

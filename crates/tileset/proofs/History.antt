@@ -14,7 +14,8 @@ use Rattle.words.specs.Answers.{unless}
 use Rattle.words.specs.Bytes.{bit}
 use Rattle.words.proofs.Answers.{all-passed, not-given}
 use Rattle.tileset.specs.Sets.{area, roomIn, lookSays}
-use Rattle.tileset.specs.Finding.{cutTo, foundIn, isFound, Looks}
+use Rattle.tileset.specs.Finding.{cutTo, foundIn, isFound}
+use Rattle.tileset.specs.Inner.{Looks}
 use Rattle.tileset.specs.Adding.{discards, oneStored, oneDiscarded, addChecks, addSays, added, storeWith}
 use Rattle.tileset.specs.Matched.{matchesSome, Apart}
 use Rattle.tileset.specs.History.{setAfter, storeAfter, setAtEnd, storeAtEnd, accepted, repeats, setTiles}

@@ -11,8 +11,10 @@ use lib.ListN.{length, getD}
 use borrow.Author.Tests.{lt-ltb, le-ltb, ltb-false, eq-eqb, ne-eqb, eqb-true, eqb-false, not-false}
 use Rattle.words.specs.Answers.{_when_, firstApplying}
 use Rattle.words.proofs.Answers.{all-passed, not-given, first-given, when-done, when-refused}
-use Rattle.tileset.specs.Sets.{area, roomUnder, setRoom, roomIn, setSays, heldChecks, heldSays, lookChecks, lookSays, answeredSet}
-use Rattle.tileset.specs.Finding.{noPlace, placeOf, placed, Looks}
+use Rattle.words.proofs.Order.{first-append}
+use Rattle.tileset.specs.Sets.{setChecks, area, roomUnder, setRoom, roomIn, setSays, heldChecks, heldSays, lookSays, answeredSet}
+use Rattle.tileset.specs.Finding.{noPlace, placeOf, placed}
+use Rattle.tileset.specs.Inner.{Looks}
 use Rattle.tileset.specs.Numbers.{nativeAnswer, logicalAnswer, gridSays, nativeSays, logicalSays, tileOf}
 use Rattle.tileset.specs.declared.Set.{Set}
 use Rattle.tileset.specs.declared.SetAnswer.{SetAnswer}
@@ -130,49 +132,68 @@ abbrev pub says : Set → ℕ
 says z = setSays (z .mode) (z .depth) (z .width) (z .height)
 
 module _ (z : Set) (len : ℕ) where
+  abbrev over : Bool
+  over = ltb (roomIn z len) (z .stored)
+
+  -- the checks of the set's size, and the one of its count
+  held-is : heldSays z len ≡ firstApplying (says z ∷ 6 when over ∷ [])
+  unfolding heldSays setSays
+  held-is = first-append (setChecks (z .mode) (z .depth) (z .width) (z .height)) (6 when over ∷ [])
+
   pub held-first : (n : ℕ) → n ≡ says z → (n ≡ 0 → ⊥) → n ≡ heldSays z len
-  unfolding heldSays
-  held-first n e h = first-given n (6 when ltb (roomIn z len) (z .stored) ∷ []) e h
+  held-first n e h = first-given n (6 when over ∷ []) e h ∙ sym held-is
 
   pub held-6 : says z ≡ 0 → roomIn z len < z .stored → 6 ≡ heldSays z len
-  unfolding heldSays
-  held-6 e h = rw (next-given (6 when ltb (roomIn z len) (z .stored) ∷ []) e, lt-ltb _ _ h)
+  held-6 e h = rw (held-is, next-given (6 when over ∷ []) e, lt-ltb _ _ h)
 
   pub held-0 : says z ≡ 0 → z .stored ≤ roomIn z len → 0 ≡ heldSays z len
-  unfolding heldSays
-  held-0 e h = rw (next-given (6 when ltb (roomIn z len) (z .stored) ∷ []) e, le-ltb _ _ h)
+  held-0 e h = rw (held-is, next-given (6 when over ∷ []) e, le-ltb _ _ h)
+
+  held-passed : heldSays z len ≡ 0 → (k : ℕ) → getD (says z ∷ 6 when over ∷ []) k 0 ≡ 0
+  held-passed e = all-passed (says z ∷ 6 when over ∷ []) (sym held-is ∙ e)
 
   pub held-says-set : heldSays z len ≡ 0 → says z ≡ 0
-  unfolding heldSays
-  held-says-set e = all-passed (heldChecks z len) e 0
+  held-says-set e = held-passed e 0
 
   pub held-set : heldSays z len ≡ 0 → IsSet (z .mode) (z .depth) (z .width) (z .height)
-  unfolding heldSays
-  held-set e = set-of (z .mode) (z .depth) (z .width) (z .height) (all-passed (heldChecks z len) e 0)
+  held-set e = set-of (z .mode) (z .depth) (z .width) (z .height) (held-says-set e)
 
   pub held-room : heldSays z len ≡ 0 → z .stored ≤ roomIn z len
-  unfolding heldSays
-  held-room e = ltb-false (roomIn z len) (z .stored) (not-given 5 (ltb (roomIn z len) (z .stored)) (all-passed (heldChecks z len) e 1))
+  held-room e = ltb-false (roomIn z len) (z .stored) (not-given 5 over (held-passed e 1))
 
-  pub look-first : (given n : ℕ) → n ≡ heldSays z len → (n ≡ 0 → ⊥) → n ≡ lookSays z len given
-  unfolding lookSays
-  look-first given n e h = first-given n (7 when not (eqb given (area z)) ∷ []) e h
+  module _ (given : ℕ) where
+    abbrev other : Bool
+    other = not (eqb given (area z))
 
-  pub look-7 : (given : ℕ) → heldSays z len ≡ 0 → (given ≡ area z → ⊥) → 7 ≡ lookSays z len given
-  unfolding lookSays
-  look-7 given e h = rw (next-given (7 when not (eqb given (area z)) ∷ []) e, ne-eqb _ _ h)
+    -- those, and the one of the pixels
+    look-is : lookSays z len given ≡ firstApplying (heldSays z len ∷ 7 when other ∷ [])
+    unfolding lookSays heldSays
+    look-is = first-append (heldChecks z len) (7 when other ∷ [])
 
-  pub look-0 : (given : ℕ) → heldSays z len ≡ 0 → given ≡ area z → 0 ≡ lookSays z len given
-  unfolding lookSays
-  look-0 given e h = rw (next-given (7 when not (eqb given (area z)) ∷ []) e, eq-eqb _ _ h)
+    pub look-first : (n : ℕ) → n ≡ heldSays z len → (n ≡ 0 → ⊥) → n ≡ lookSays z len given
+    look-first n e h = first-given n (7 when other ∷ []) e h ∙ sym look-is
+
+    pub look-7 : heldSays z len ≡ 0 → (given ≡ area z → ⊥) → 7 ≡ lookSays z len given
+    look-7 e h = rw (look-is, next-given (7 when other ∷ []) e, ne-eqb _ _ h)
+
+    pub look-0 : heldSays z len ≡ 0 → given ≡ area z → 0 ≡ lookSays z len given
+    look-0 e h = rw (look-is, next-given (7 when other ∷ []) e, eq-eqb _ _ h)
+
+    look-passed : lookSays z len given ≡ 0 → (k : ℕ) → getD (heldSays z len ∷ 7 when other ∷ []) k 0 ≡ 0
+    look-passed e = all-passed (heldSays z len ∷ 7 when other ∷ []) (sym look-is ∙ e)
+
+    pub look-held : lookSays z len given ≡ 0 → heldSays z len ≡ 0
+    look-held e = look-passed e 0
+
+    pub look-whole : lookSays z len given ≡ 0 → given ≡ area z
+    look-whole e = eqb-true given (area z) (not-false (eqb given (area z)) (not-given 6 other (look-passed e 1)))
 
 -- what a look-up and an add know
 pub looks-of : (z : Set) (store pixels : List ℕ) → lookSays z (length store) (length pixels) ≡ 0 → Looks z store pixels
-unfolding lookSays
 looks-of z store pixels e =
-    let passed : (k : ℕ) → getD (lookChecks z (length store) (length pixels)) k 0 ≡ 0 = all-passed (lookChecks z (length store) (length pixels)) e in
-    let set = held-set z (length store) (passed 0) in
-    let room = held-room z (length store) (passed 0) in
+    let held = look-held z (length store) (length pixels) e in
+    let set = held-set z (length store) held in
+    let room = held-room z (length store) held in
     record {
       deep = set .deep;
       some = set .some;
@@ -181,7 +202,7 @@ looks-of z store pixels e =
       small = set .small;
       inside = le-div-iff-mul-le {k = area z} (mul-pos (set .some) (set .tall)) .0 (le-trans room (room-whole (z .limit) (length store / area z)));
       few = le-trans room (room-most (z .limit) (length store / area z));
-      whole = eqb-true (length pixels) (area z) (not-false (eqb (length pixels) (area z)) (not-given 6 (not (eqb (length pixels) (area z))) (passed 1)));
+      whole = look-whole z (length store) (length pixels) e;
     }
 
 -- ---- the checks of the two numbers

@@ -1,7 +1,7 @@
 -- "Sets and whole tiles": a set, its sizes and its room.
 -- Assumes nothing.
 use mathlib.Core.Bool.{Bool, false, not, cond, _&&_}
-use mathlib.Core.List.{List, [], _∷_}
+use mathlib.Core.List.{List, [], _∷_, _++_}
 use Prim.Native.Nat.{ℕ, _*_, _/_, min}
 use lib.Dec.{ltb, eqb}
 use Rattle.words.specs.Answers.{_when_, firstApplying, unless}
@@ -86,14 +86,14 @@ roomIn z len = setRoom (z .limit) (len / area z)
 
 -- "Set state counts more tiles than its room": checked wherever a set comes with its store, of so many pixels.
 abbrev pub heldChecks : Set → ℕ → List ℕ
-heldChecks z len = setSays (z .mode) (z .depth) (z .width) (z .height) ∷ 6 when ltb (roomIn z len) (z .stored) ∷ []
+heldChecks z len = setChecks (z .mode) (z .depth) (z .width) (z .height) ++ 6 when ltb (roomIn z len) (z .stored) ∷ []
 
 unfoldable pub heldSays : Set → ℕ → ℕ
 heldSays z len = firstApplying (heldChecks z len)
 
 -- A look-up, of a tile of so many pixels.
 abbrev pub lookChecks : Set → ℕ → ℕ → List ℕ
-lookChecks z len given = heldSays z len ∷ 7 when not (eqb given (area z)) ∷ []
+lookChecks z len given = heldChecks z len ++ 7 when not (eqb given (area z)) ∷ []
 
 unfoldable pub lookSays : Set → ℕ → ℕ → ℕ
 lookSays z len given = firstApplying (lookChecks z len given)

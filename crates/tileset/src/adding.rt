@@ -13,7 +13,8 @@ ghost use lib.ListN.{length};
 ghost use lib.Seq.{sets};
 ghost use Rattle.words.specs.Answers.{_when_};
 ghost use Rattle.tileset.specs.Sets.{setRoom, area, answeredSet};
-ghost use Rattle.tileset.specs.Finding.{cutTo, Looks};
+ghost use Rattle.tileset.specs.Finding.{cutTo};
+ghost use Rattle.tileset.specs.Inner.{Looks};
 ghost use Rattle.tileset.specs.Adding.{oneStored, oneDiscarded, addSays, added, storeWith, Adds};
 
 // The tile goes at the end, or 12.

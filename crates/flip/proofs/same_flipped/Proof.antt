@@ -8,7 +8,7 @@ use borrow.Author.Tests.{not-true, not-false}
 use borrow.Author.Count.{below-more}
 use borrow.Author.Needs.{needs}
 use Rattle.flip.specs.Flips.{turned}
-use Rattle.flip.specs.Matching.{RowAs}
+use Rattle.flip.specs.Inner.{RowAs}
 use Rattle.flip.proofs.Rows.{row-inside, rows-agree, row-differs, row-told}
 use Rattle.flip.proofs.same_flipped.Statement.{statement}
 use Rattle.flip.proofs.same_flipped.Tie as tie

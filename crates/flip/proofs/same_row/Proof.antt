@@ -6,7 +6,7 @@ use lib.ListN.{getD}
 use denote.Ref.{now}
 use borrow.Author.Needs.{needs}
 use Rattle.flip.specs.Flips.{turned}
-use Rattle.flip.specs.Matching.{Eight, eightFrom}
+use Rattle.flip.specs.Inner.{Eight, eightFrom}
 use Rattle.flip.proofs.Eights.{eight-left, eight-differs, eight-agrees}
 use Rattle.flip.proofs.same_row.Statement.{statement}
 use Rattle.flip.proofs.same_row.Tie as tie

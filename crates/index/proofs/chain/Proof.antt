@@ -3,7 +3,7 @@ use mathlib.Core.Path.{refl, ap, _∙_}
 use Prim.Native.Nat.{ℕ}
 use lib.ListN.{getD, set}
 use denote.Ref.{now}
-use Rattle.index.specs.Index.{headOf}
+use Rattle.index.specs.Inner.{headOf}
 use borrow.Author.Needs.{needs}
 use Rattle.index.proofs.chain.Statement.{statement}
 use Rattle.index.proofs.chain.Tie as tie
