@@ -38,7 +38,8 @@ module _ (on : Bool) (tiles : List (List ℕ)) (keys heads next : List ℕ) (x :
 
 -- ---- one of some tiles matches
 
-pub some-at : (on : Bool) (w h : ℕ) (tiles : List (List ℕ)) (t : List ℕ) (i : ℕ) → i < length tiles → matches on w h (getD tiles i []) t ≡ true → matchesSome on w h tiles t ≡ true
+pub some-at : (on : Bool) (w h : ℕ) (tiles : List (List ℕ)) (t : List ℕ) (i : ℕ) → i < length tiles → matches on w h (getD tiles i []) t ≡ true
+    → matchesSome on w h tiles t ≡ true
 some-at on w h [] t i lt e = absurd (omega arith)
 some-at on w h (a ∷ rest) t zero lt e = rw e
 some-at on w h (a ∷ rest) t (suc i) lt e = rw (some-at on w h rest t i (omega arith) e) (or-true (matches on w h a t))
@@ -49,7 +50,8 @@ where-case : (on : Bool) (w h : ℕ) (a : List ℕ) (rest : List (List ℕ)) (t 
 where-case on w h a rest t true m next e = (0, omega arith, m)
 where-case on w h a rest t false m next e = let r = next e in (suc (r .0), omega (arith, r .1), r .2)
 
-pub some-where : (on : Bool) (w h : ℕ) (tiles : List (List ℕ)) (t : List ℕ) → matchesSome on w h tiles t ≡ true → (i : ℕ) × (i < length tiles) × (matches on w h (getD tiles i []) t ≡ true)
+pub some-where : (on : Bool) (w h : ℕ) (tiles : List (List ℕ)) (t : List ℕ) → matchesSome on w h tiles t ≡ true
+    → (i : ℕ) × (i < length tiles) × (matches on w h (getD tiles i []) t ≡ true)
 some-where on w h [] t e = not-both e
 some-where on w h (a ∷ rest) t e = where-case on w h a rest t (matches on w h a t) refl (some-where on w h rest t) e
 
@@ -82,7 +84,9 @@ module _ (on : Bool) (t : List ℕ) where
     unfolding below
     over k r p =
         ap (λ (ts : List (List ℕ)). orElse (lookUp on 8 8 ts t) r) (take-suc tiles k [] p)
-        ∙ ap (λ (q : Found). orElse q r) (look-append on 8 8 t (take k tiles) (getD tiles k [] ∷ []) ∙ ap (λ (n : ℕ). orElse (lookUp on 8 8 (take k tiles) t) (foundOr (matchFlip on 8 8 (getD tiles k []) t) n Nothing)) (length-take-le k tiles (omega arith)))
+        ∙ ap (λ (q : Found). orElse q r)
+        (look-append on 8 8 t (take k tiles) (getD tiles k [] ∷ [])
+        ∙ ap (λ (n : ℕ). orElse (lookUp on 8 8 (take k tiles) t) (foundOr (matchFlip on 8 8 (getD tiles k []) t) n Nothing)) (length-take-le k tiles (omega arith)))
         ∙ or-over (lookUp on 8 8 (take k tiles) t) (matchFlip on 8 8 (getD tiles k []) t) k r
 
     found-or : (q r s : Found) → isFound q ≡ true → orElse q r ≡ orElse q s

@@ -52,7 +52,9 @@ returns c =
     let a = c .before .before .before .before .before .before .args in
     let b = c .before .before .bucket in
     let h = now (a .heads) in
-    (refl, (ap (λ (k : ℕ). set (now (a .next)) (a .n) (getD h k 0)) (b .ensures .0), ap (λ (x : ℕ). set h (b .result) x) (c .head-of .ensures) ∙ ap (λ (k : ℕ). set h k (headOf (a .found) (getD h k 0) (a .n))) (b .ensures .0)))
+    let link = ap (λ (k : ℕ). set (now (a .next)) (a .n) (getD h k 0)) (b .ensures .0) in
+    let head = ap (λ (k : ℕ). set h k (headOf (a .found) (getD h k 0) (a .n))) (b .ensures .0) in
+    (refl, (link, ap (λ (x : ℕ). set h (b .result) x) (c .head-of .ensures) ∙ head))
 
 pub chain-spec : {M : Type 1} → statement M
 chain-spec =

@@ -32,7 +32,9 @@ low-requires : tie.Need-low-requires Inv-loop μ-loop
 low-requires c κs = search needs
 
 cast-out : tie.Need-cast-out Inv-loop μ-loop
-cast-out c = omega (arith, c .low .ensures, c .before .wide .ensures .1, mod-le (c .before .wide .result) (2 ^ c .before .before .before .before .before .before .before .args .depth))
+cast-out c =
+    let depth = c .before .before .before .before .before .before .before .args .depth in
+    omega (arith, c .low .ensures, c .before .wide .ensures .1, mod-le (c .before .wide .result) (2 ^ depth))
 
 add-out : tie.Need-add-out Inv-loop μ-loop
 add-out c = search needs
@@ -48,9 +50,9 @@ loop-less c = search needs
 
 loop-again : tie.Need-loop-again Inv-loop μ-loop
 loop-again c =
-    let st = c .before .before .before .before .before .before .before in
-    let lp = c .before .before .before .before .loop in
-    (search needs, filled-one (lp .inv .1) (c .low .ensures ∙ ap (λ (k : ℕ). k % 2 ^ st .args .depth) (c .before .wide .ensures .0)))
+    let lp = c .before .before .before .before in
+    let depth = lp .before .before .before .args .depth in
+    (search needs, filled-one (lp .loop .inv .1) (c .low .ensures ∙ ap (λ (k : ℕ). k % 2 ^ depth) (c .before .wide .ensures .0)))
 
 same-length : tie.Need-same-length Inv-loop μ-loop
 same-length c = c .before .loop .inv .1 .long
@@ -58,7 +60,8 @@ same-length c = c .before .loop .inv .1 .long
 returns : tie.Need-returns Inv-loop μ-loop
 returns c =
     let a = c .before .before .before .before .args in
-    filled-all (length (now (a .pixels))) (c .before .loop .inv .1) (omega arith) ∙ ap (λ (l : List ℕ). sets (now (a .out)) (a .at) l) (each-cut (a .depth) (now (a .pixels)))
+    filled-all (length (now (a .pixels))) (c .before .loop .inv .1) (omega arith)
+    ∙ ap (λ (l : List ℕ). sets (now (a .out)) (a .at) l) (each-cut (a .depth) (now (a .pixels)))
 
 pub put-cut-spec : {M : Type 1} → statement M
 put-cut-spec =
