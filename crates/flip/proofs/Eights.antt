@@ -10,7 +10,7 @@ use native.Mathlib.Numerals.{unary-clauses}
 use native.Mathlib.Omega.{arith}
 use lib.ListN.{getD}
 use Rattle.flip.specs.Flips.{turned}
-use Rattle.flip.specs.Matching.{RowAgrees, together, eightAt, eightFrom, Eight}
+use Rattle.flip.specs.Inner.{RowAgrees, together, eightAt, eightFrom, Eight}
 
 -- ---- bytes as one number: equal numbers are of equal bytes
 

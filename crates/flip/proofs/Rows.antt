@@ -13,7 +13,7 @@ use borrow.Author.Tests.{eq-eqb}
 use Rattle.words.specs.Bytes.{same}
 use Rattle.words.proofs.Bytes.{same-eq}
 use Rattle.flip.specs.Flips.{turned, flipAt, flipped}
-use Rattle.flip.specs.Matching.{RowAs, Compares}
+use Rattle.flip.specs.Inner.{RowAs, Compares}
 use Rattle.flip.specs.declared.Flip.{Flip}
 use Rattle.flip.proofs.Group.{row-lt, column-lt, place-lt, place-row, place-column, flipAt-lt, flipped-at, is-flipped}
 

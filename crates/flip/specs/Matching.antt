@@ -1,12 +1,10 @@
 -- Matching: whether one tile is another under an allowed flip.
 -- Assumes nothing.
-use mathlib.Core.Path.{_≡_}
 use mathlib.Core.Bool.{Bool, true, false, cond}
 use mathlib.Core.List.{List, [], _∷_}
-use Prim.Native.Nat.{ℕ, zero, suc, _+_, _-_, _*_, _%_, _<_, _≤_}
-use lib.ListN.{length, getD}
+use Prim.Native.Nat.{ℕ}
 use Rattle.words.specs.Bytes.{same}
-use Rattle.flip.specs.Flips.{flip, turned, flipped}
+use Rattle.flip.specs.Flips.{flip, flipped}
 use Rattle.flip.specs.declared.Flip.{Flip}
 use Rattle.flip.specs.declared.Match.{Match}
 use Rattle.flip.specs.declared.Match.the-variants.{Under, Never}
@@ -31,39 +29,3 @@ isUnder Never = false
 
 abbrev pub matches : Bool → ℕ → ℕ → List ℕ → List ℕ → Bool
 matches on w h a b = isUnder (matchFlip on w h a b)
-
--- What comparing the tile at place at of a store with a tile asks. Every tile is some eights wide.
-pub record Compares (store : List ℕ) (at : ℕ) (tile : List ℕ) (w h : ℕ) : Type 0 where
-  pub some : 0 < w
-  pub eights : w % 8 ≡ 0
-  pub inside : at + w * h ≤ length store
-  pub whole : length tile ≡ w * h
-
-pub record ComparesRow (store : List ℕ) (from : ℕ) (tile : List ℕ) (i w : ℕ) : Type 0 where
-  pub eights : w % 8 ≡ 0
-  pub inside : from + w ≤ length store
-  pub within : i + w ≤ length tile
-
--- Whether a row of the tile, from place i on, is the store's row from place from on, turned or not.
-abbrev pub RowAgrees : Bool → List ℕ → ℕ → List ℕ → ℕ → ℕ → Type 0
-RowAgrees across store from tile i w = (x : ℕ) → x < w → getD store (from + turned across w x) 0 ≡ getD tile (i + x) 0
-
-abbrev pub RowAs : Bool → List ℕ → ℕ → List ℕ → ℕ → ℕ → Bool → Type 0
-RowAs across store from tile i w true = RowAgrees across store from tile i w
-RowAs across store from tile i w false = RowAgrees across store from tile i w → ⊥
-
--- Some bytes as one number, the first the least; and eight pixels from place at on, turned or not.
-abbrev pub together : ℕ → (ℕ → ℕ) → ℕ
-together zero f = 0
-together (suc n) f = f 0 + 256 * together n (λ k. f (suc k))
-
-abbrev pub eightAt : Bool → List ℕ → ℕ → ℕ → ℕ
-eightAt across s at k = getD s (at + turned across 8 k) 0
-
--- Where the eight pixels at place x of a row of w stand in the row.
-abbrev pub eightFrom : Bool → ℕ → ℕ → ℕ
-eightFrom across w x = cond across (w - 8 - x) x
-
-pub record Eight (across : Bool) (s : List ℕ) (at r : ℕ) : Type 0 where
-  pub is : r ≡ together 8 (eightAt across s at)
-  pub small : (k : ℕ) → k < 8 → eightAt across s at k < 256

@@ -3,8 +3,9 @@ ghost use mathlib.Core.Path.{_≡_};
 ghost use Prim.Native.Nat.{_+_, _*_, _<_, _≤_};
 ghost use lib.ListN.{length, take, drop};
 ghost use Rattle.words.specs.Bytes.{same};
-ghost use Rattle.flip.specs.Flips.{turned, flipped};
-ghost use Rattle.flip.specs.Matching.{matchFlip, RowAs, Compares, ComparesRow, Eight, eightFrom};
+ghost use Rattle.flip.specs.Flips.{turned, flipAt, flipped};
+ghost use Rattle.flip.specs.Matching.{matchFlip};
+ghost use Rattle.flip.specs.Inner.{RowAs, Compares, ComparesRow, Eight, eightFrom};
 
 // Which way a tile is turned: h reverses each row, v the order of rows.
 pub struct Flip {
@@ -19,7 +20,7 @@ pub enum Match {
 }
 
 // Place x of n, counted from the other end where the flip is on.
-fn turned(on: bool, n: usize, x: usize) -> usize
+pub fn turned(on: bool, n: usize, x: usize) -> usize
     requires { ⌜ x < n ⌝ }
     ensures { λ r. ⌜ (r ≡ turned on n x) × (r < n) ⌝ }
 {
@@ -29,7 +30,16 @@ fn turned(on: bool, n: usize, x: usize) -> usize
     x
 }
 
-fn wide(b: u8) -> u64
+// Where the pixel at place i of a flipped 8x8 tile stands in the tile.
+pub fn flip_at(f: Flip, i: usize) -> usize
+    requires { ⌜ i < 64 ⌝ }
+    ensures { λ r. ⌜ (r ≡ flipAt f 8 8 i) × (r < 64) ⌝ }
+{
+    turned(f.v, 8, i / 8) * 8 + turned(f.h, 8, i % 8)
+}
+
+// A pixel as a number that has room for eight of them.
+pub fn wide(b: u8) -> u64
     ensures { λ r. ⌜ (r ≡ b) × (r < 256) ⌝ }
 {
     b as u64

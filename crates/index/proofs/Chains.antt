@@ -4,7 +4,7 @@ use mathlib.Core.Path.{_≡_, refl, sym, ap, _∙_, subst}
 use mathlib.Core.Bool.{Bool, true, false, cond, _||_}
 use mathlib.Core.List.{List, [], _∷_}
 use Prim.Native.Nat.{ℕ, zero, suc, _+_, _*_, _-_, _%_, _<_, _≤_}
-use native.Mathlib.Nat.{add-zero, add-suc, suc-add, zero-add, le-refl}
+use native.Mathlib.Nat.{add-zero, add-suc, le-refl}
 use native.Mathlib.Omega.{arith}
 use lib.Dec.{eqb}
 use lib.ListN.{length, getD, take, drop}
@@ -15,15 +15,14 @@ use Rattle.flip.specs.Matching.{matchFlip, isUnder, matches}
 use Rattle.flip.specs.declared.Match.{Match}
 use Rattle.flip.specs.declared.Match.the-variants.{Under, Never}
 use Rattle.flip.proofs.Equivalence.{matches-trans, not-both}
-use Rattle.tileset.specs.Finding.{logical, foundOr, tilesFrom, tilesIn, lookUp, isFound}
+use Rattle.tileset.specs.Finding.{logical, foundOr, tilesIn, lookUp, isFound}
 use Rattle.tileset.specs.Matched.{matchesSome}
 use Rattle.tileset.specs.declared.Found.{Found}
 use Rattle.tileset.specs.declared.Found.the-variants.{At, Nothing}
 use Rattle.tileset.proofs.Matched.{look-some}
 use Rattle.tileset.proofs.Search.{orElse, look-append}
-use Rattle.tileset.proofs.Stores.{length-tiles}
-use Rattle.index.specs.Key.{key}
-use Rattle.index.specs.Index.{bucketOf, Skip, Gap, Indexed, linkOf, LooksAt, Searches}
+use Rattle.tileset.proofs.Stores.{tiles-at, tiles-long}
+use Rattle.index.specs.Inner.{key, bucketOf, Skip, Gap, Indexed, linkOf, LooksAt, Searches}
 use Rattle.index.proofs.Keys.{matches-key}
 
 module _ (on : Bool) (tiles : List (List ℕ)) (keys heads next : List ℕ) (x : Indexed on tiles keys heads next) (b k : ℕ) (p : k < length tiles) where
@@ -39,7 +38,8 @@ module _ (on : Bool) (tiles : List (List ℕ)) (keys heads next : List ℕ) (x :
 
 -- ---- one of some tiles matches
 
-pub some-at : (on : Bool) (w h : ℕ) (tiles : List (List ℕ)) (t : List ℕ) (i : ℕ) → i < length tiles → matches on w h (getD tiles i []) t ≡ true → matchesSome on w h tiles t ≡ true
+pub some-at : (on : Bool) (w h : ℕ) (tiles : List (List ℕ)) (t : List ℕ) (i : ℕ) → i < length tiles → matches on w h (getD tiles i []) t ≡ true
+    → matchesSome on w h tiles t ≡ true
 some-at on w h [] t i lt e = absurd (omega arith)
 some-at on w h (a ∷ rest) t zero lt e = rw e
 some-at on w h (a ∷ rest) t (suc i) lt e = rw (some-at on w h rest t i (omega arith) e) (or-true (matches on w h a t))
@@ -50,7 +50,8 @@ where-case : (on : Bool) (w h : ℕ) (a : List ℕ) (rest : List (List ℕ)) (t 
 where-case on w h a rest t true m next e = (0, omega arith, m)
 where-case on w h a rest t false m next e = let r = next e in (suc (r .0), omega (arith, r .1), r .2)
 
-pub some-where : (on : Bool) (w h : ℕ) (tiles : List (List ℕ)) (t : List ℕ) → matchesSome on w h tiles t ≡ true → (i : ℕ) × (i < length tiles) × (matches on w h (getD tiles i []) t ≡ true)
+pub some-where : (on : Bool) (w h : ℕ) (tiles : List (List ℕ)) (t : List ℕ) → matchesSome on w h tiles t ≡ true
+    → (i : ℕ) × (i < length tiles) × (matches on w h (getD tiles i []) t ≡ true)
 some-where on w h [] t e = not-both e
 some-where on w h (a ∷ rest) t e = where-case on w h a rest t (matches on w h a t) refl (some-where on w h rest t) e
 
@@ -83,7 +84,9 @@ module _ (on : Bool) (t : List ℕ) where
     unfolding below
     over k r p =
         ap (λ (ts : List (List ℕ)). orElse (lookUp on 8 8 ts t) r) (take-suc tiles k [] p)
-        ∙ ap (λ (q : Found). orElse q r) (look-append on 8 8 t (take k tiles) (getD tiles k [] ∷ []) ∙ ap (λ (n : ℕ). orElse (lookUp on 8 8 (take k tiles) t) (foundOr (matchFlip on 8 8 (getD tiles k []) t) n Nothing)) (length-take-le k tiles (omega arith)))
+        ∙ ap (λ (q : Found). orElse q r)
+        (look-append on 8 8 t (take k tiles) (getD tiles k [] ∷ [])
+        ∙ ap (λ (n : ℕ). orElse (lookUp on 8 8 (take k tiles) t) (foundOr (matchFlip on 8 8 (getD tiles k []) t) n Nothing)) (length-take-le k tiles (omega arith)))
         ∙ or-over (lookUp on 8 8 (take k tiles) t) (matchFlip on 8 8 (getD tiles k []) t) k r
 
     found-or : (q r s : Found) → isFound q ≡ true → orElse q r ≡ orElse q s
@@ -125,21 +128,6 @@ module _ (on : Bool) (t : List ℕ) where
     turn : (k l : ℕ) (r : Found) → k < length tiles → l ≤ k → Gap on tiles (bucketOf on t) l k
         → below (suc k) r ≡ below l (foundOr (matchFlip on 8 8 (getD tiles k []) t) k r)
     turn k l r p q g = over k r p ∙ gap l k (foundOr (matchFlip on 8 8 (getD tiles k []) t) k r) q (omega arith) g
-
--- ---- the tiles of a store
-
-from-at : (n : ℕ) (s : List ℕ) (k count i : ℕ) → i < count → getD (tilesFrom n s k count) i [] ≡ take n (drop ((k + i) * n) s)
-from-at n s k zero i lt = absurd (omega arith)
-from-at n s k (suc count) zero lt = rw (add-zero k)
-from-at n s k (suc count) (suc i) lt = from-at n s (suc k) count i (omega arith) ∙ ap (λ (j : ℕ). take n (drop (j * n) s)) (suc-add k i ∙ sym (add-suc k i))
-
-pub tiles-at : (n : ℕ) (s : List ℕ) (count i : ℕ) → i < count → getD (tilesIn n s count) i [] ≡ take n (drop (i * n) s)
-unfolding tilesIn
-tiles-at n s count i lt = from-at n s 0 count i lt ∙ ap (λ (j : ℕ). take n (drop (j * n) s)) (zero-add i)
-
-pub tiles-long : (n : ℕ) (s : List ℕ) (count : ℕ) → length (tilesIn n s count) ≡ count
-unfolding tilesIn
-tiles-long n s count = length-tiles n s 0 count
 
 -- ---- a search
 

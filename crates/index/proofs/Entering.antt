@@ -16,10 +16,9 @@ use Rattle.tileset.specs.Finding.{tilesIn, lookUp, isFound}
 use Rattle.tileset.specs.declared.Found.{Found}
 use Rattle.tileset.specs.declared.Found.the-variants.{At, Nothing}
 use Rattle.tileset.proofs.Matched.{look-some}
-use Rattle.tileset.proofs.Stores.{tiles-put}
-use Rattle.index.specs.Key.{key}
-use Rattle.index.specs.Index.{bucketOf, Skip, Gap, Indexed, headOf, Enters, Entered}
-use Rattle.index.proofs.Chains.{some-where, tiles-long}
+use Rattle.tileset.proofs.Stores.{tiles-put, tiles-long}
+use Rattle.index.specs.Inner.{key, bucketOf, Skip, Gap, Indexed, headOf, Enters, Entered}
+use Rattle.index.proofs.Chains.{some-where}
 
 -- ---- an index of no tiles
 
@@ -58,7 +57,8 @@ module _ (on : Bool) (tiles : List (List ℕ)) (t : List ℕ) where
   skip-old : (c j : ℕ) → j < length tiles → Skip on tiles c j → Skip on more c j
   skip-old c j p s e =
       let r = s (ap (λ (a : List ℕ). bucketOf on a) (sym (old j p)) ∙ e) in
-      (r .0, r .1, ap (λ (a : List ℕ). matches on 8 8 a (getD more j [])) (old (r .0) (omega (arith, r .1))) ∙ ap (matches on 8 8 (getD tiles (r .0) [])) (old j p) ∙ r .2)
+      let i-old = ap (λ (a : List ℕ). matches on 8 8 a (getD more j [])) (old (r .0) (omega (arith, r .1))) in
+      (r .0, r .1, i-old ∙ ap (matches on 8 8 (getD tiles (r .0) [])) (old j p) ∙ r .2)
 
   gap-old : (c low high : ℕ) → high ≤ length tiles → Gap on tiles c low high → Gap on more c low high
   gap-old c low high p g j q r = skip-old c j (omega arith) (g j q r)
@@ -160,7 +160,8 @@ module _ (on : Bool) (store keys heads next : List ℕ) (count : ℕ) (t : List 
   entered es ek en eh =
       let n : length tiles ≡ count = tiles-long 64 store count in
       let a : Then (length tiles) (key on t) =
-      enter-case on tiles t keys heads next (z .index) (omega (arith, z .room)) (omega (arith, z .room)) (omega (arith, mod-lt (key on t) {m = 4096} (omega arith))) found (sym (z .looked)) in
+      enter-case on tiles t keys heads next (z .index) (omega (arith, z .room)) (omega (arith, z .room)) (omega (arith, mod-lt (key on t) {m = 4096} (omega arith)))
+      found (sym (z .looked)) in
       let i : Then count q = subst (λ (k : ℕ). Then count k) (sym (z .its)) (subst (λ (m : ℕ). Then m (key on t)) n a) in
       record {
         is = ap (λ (s : List ℕ). tilesIn 64 s (count + 1)) es ∙ tiles-put 64 store t count (omega (arith, z .room)) whole;

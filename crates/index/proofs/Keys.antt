@@ -14,7 +14,7 @@ use Rattle.flip.specs.declared.Match.{Match}
 use Rattle.flip.specs.declared.Match.the-variants.{Under, Never}
 use Rattle.flip.proofs.Group.{flipped-flipped}
 use Rattle.flip.proofs.Equivalence.{Allowed, not-both, matches-true}
-use Rattle.index.specs.Key.{word, hash, mix, pair, key}
+use Rattle.index.specs.Inner.{word, hash, mix, pair, key}
 
 -- ---- no allowed flip changes the key
 

@@ -1,4 +1,3 @@
 pub mod Keys
 pub mod Chains
-pub mod Putting
 pub mod Entering

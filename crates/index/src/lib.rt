@@ -9,17 +9,10 @@ ghost use mathlib.Core.List.{[], _∷_, _++_};
 ghost use Prim.Native.Nat.{_+_, _*_, _%_, _<_, _≤_};
 ghost use lib.ListN.{length, getD, set, take, drop};
 ghost use lib.Seq.{sets};
-ghost use Rattle.flip.specs.Flips.{turned, flipAt, flipped};
+ghost use Rattle.flip.specs.Flips.{flipped};
 ghost use Rattle.flip.specs.Matching.{matchFlip};
 ghost use Rattle.tileset.specs.Finding.{foundOr, tilesIn, lookUp};
-ghost use Rattle.index.specs.Key.{word, hash, mix, pair, key};
-ghost use Rattle.index.specs.Index.{linkOf, headOf, LooksAt, Searches, Enters, Entered};
-
-fn wide(x: u8) -> u64
-    ensures { λ r. ⌜ (r ≡ x) × (r < 256) ⌝ }
-{
-    x as u64
-}
+ghost use Rattle.index.specs.Inner.{word, hash, mix, pair, key, linkOf, headOf, LooksAt, Searches, Enters, Entered};
 
 fn place(x: u16) -> usize
     ensures { λ r. ⌜ r ≡ x ⌝ }
@@ -27,30 +20,12 @@ fn place(x: u16) -> usize
     x as usize
 }
 
-fn turned(on: bool, x: usize) -> usize
-    requires { ⌜ x < 8 ⌝ }
-    ensures { λ r. ⌜ (r ≡ turned on 8 x) × (r < 8) ⌝ }
-{
-    if on {
-        return 7 - x;
-    }
-    x
-}
-
-// Where the pixel at place i of a flipped tile stands in the tile.
-pub fn flip_at(f: Flip, i: usize) -> usize
-    requires { ⌜ i < 64 ⌝ }
-    ensures { λ r. ⌜ (r ≡ flipAt f 8 8 i) × (r < 64) ⌝ }
-{
-    turned(f.v, i / 8) * 8 + turned(f.h, i % 8)
-}
-
 fn pixel(tile: &[u8; 64], f: Flip, i: usize) -> u64
     requires { ⌜ i < 64 ⌝ }
     ensures { λ r. ⌜ (r ≡ getD (flipped f 8 8 (now (tile .entry))) i 0) × (r < 256) ⌝ }
 {
-    let k = flip_at(f, i);
-    wide(tile[k])
+    let k = flip::flip_at(f, i);
+    flip::wide(tile[k])
 }
 
 // Four pixels of the tile under a flip as one number.
@@ -198,18 +173,6 @@ fn head_of(found: Found, head: u16, n: usize) -> u16
     head
 }
 
-// The tile, from place at of the store on.
-fn put_tile(store: &mut [u8], at: usize, tile: &[u8])
-    requires { ⌜ (at + 64 ≤ length (now store)) × (length (now tile) ≡ 64) ⌝ }
-    ensures { λ _. ⌜ now (store .exit) ≡ sets (now (store .entry)) at (now (tile .entry)) ⌝ }
-{
-    let mut i = 0;
-    while i < 64 {
-        store[at + i] = tile[i];
-        i += 1;
-    }
-}
-
 // Key, link and head for tile n, whose key is q.
 fn chain(keys: &mut [u32], heads: &mut [u16], next: &mut [u16], n: usize, q: u32, found: Found)
     requires { ⌜ (n < 4096) × (n < length (now keys)) × (n < length (now next)) × (4096 ≤ length (now heads)) ⌝ }
@@ -239,6 +202,6 @@ pub fn enter(
     requires { ⌜ Enters flips (now store) (now keys) (now heads) (now next) count (now tile) q found ⌝ }
     ensures { λ _. ⌜ Entered flips (tilesIn 64 (now (store .entry)) count ++ now (tile .entry) ∷ []) (now (store .exit)) (now (keys .exit)) (now (heads .exit)) (now (next .exit)) (count + 1) ⌝ }
 {
-    put_tile(store, count * 64, tile);
+    words::put(store, count * 64, tile);
     chain(keys, heads, next, count, q, found);
 }

@@ -18,7 +18,7 @@ use Rattle.mapentry.specs.Entry.{entryBytes, IsEntry}
 use Rattle.tile.specs.Tile.{packed}
 use Rattle.tileset.specs.declared.Found.{Found}
 use Rattle.tileset.specs.declared.Found.the-variants.{At, Nothing}
-use Rattle.index.proofs.Chains.{tiles-at, tiles-long}
+use Rattle.tileset.proofs.Stores.{tiles-at, tiles-long}
 use Rattle.picture.specs.Entries.{entryFor}
 use Rattle.picture.specs.Converting.{places, storedOf, needOf, discardedOf, tileBytes, foundAt, mapBytes, pictured, answerOf, Converts}
 use Rattle.picture.specs.Inner.{codeOf, entryCoded, IsPicture, GatheredWith, GatheredAs}

@@ -13,8 +13,8 @@ use lib.Seq.{getD-set-same, getD-set-other}
 use Rattle.tileset.specs.Finding.{tilesIn, lookUp, isFound}
 use Rattle.tileset.specs.declared.Found.{Found}
 use Rattle.tileset.specs.declared.Found.the-variants.{At, Nothing}
-use Rattle.index.specs.Index.{Indexed, Entered}
-use Rattle.index.proofs.Chains.{tiles-long}
+use Rattle.index.specs.Inner.{Indexed, Entered}
+use Rattle.tileset.proofs.Stores.{tiles-long}
 use Rattle.index.proofs.Entering.{indexed-none}
 use Rattle.picture.specs.Cells.{cutTile, cutTiles}
 use Rattle.tileset.specs.Keeping.{keep, kept}

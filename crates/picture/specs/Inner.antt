@@ -16,7 +16,7 @@ use Rattle.flip.specs.Flips.{flip}
 use Rattle.tileset.specs.Finding.{logical, tilesIn, lookUp}
 use Rattle.tileset.specs.declared.Found.{Found}
 use Rattle.tileset.specs.declared.Found.the-variants.{At, Nothing}
-use Rattle.index.specs.Index.{Indexed, Entered}
+use Rattle.index.specs.Inner.{Indexed, Entered}
 use Rattle.picture.specs.Entries.{entryAs}
 use Rattle.picture.specs.Converting.{places, storedOf, foundAt, askedChecks}
 use Rattle.picture.specs.Redrawing.{entryAt, drawnTile}

@@ -444,7 +444,7 @@ fn put_flipped(tile: &[u8], f: Flip, out: &mut [u8], at: usize)
 {
     let mut i = 0;
     while i < 64 {
-        let k = index::flip_at(f, i);
+        let k = flip::flip_at(f, i);
         out[at + i] = tile[k];
         i += 1;
     }

@@ -12,13 +12,14 @@ use borrow.Author.Tests.{leb-false}
 use Rattle.words.specs.Answers.{unless}
 use Rattle.words.proofs.Answers.{not-given}
 use Rattle.tileset.specs.Sets.{area, roomIn, lookSays, withCounts, emptied}
-use Rattle.tileset.specs.Finding.{cutTo, tilesIn, foundIn, Looks}
+use Rattle.tileset.specs.Finding.{cutTo, tilesIn, foundIn}
 use Rattle.tileset.specs.Adding.{discards, noRoom, oneStored, oneDiscarded, atEnd, addSays, added, storeWith}
 use Rattle.tileset.specs.Matched.{Apart}
 use Rattle.tileset.specs.Keeping.{keep, keepAll, repeats}
 use Rattle.tileset.specs.History.{setTiles, Call, addCall, resetCall, lookCall, Promised, setAfter, storeAfter, lastSet, lastStore, Calls}
 use Rattle.tileset.specs.History.{Since, sinceReset, sinceStart, taking, sinceCall, sinceCalls}
 use Rattle.tileset.specs.History.{Ask, toAdd, toReset, toLook, callOf, callsOf, addsOf, setAtEnd, storeAtEnd, accepted}
+use Rattle.tileset.specs.Inner.{Looks}
 use Rattle.tileset.specs.declared.Set.{Set}
 use Rattle.tileset.proofs.Says.{says, room-left, looks-of}
 use Rattle.tileset.proofs.Stores.{length-cut, length-tiles, tiles-put}

@@ -1,5 +1,6 @@
 pub mod Sizes
 pub mod Says
+pub mod Lowest
 pub mod NumberLaws
 pub mod Stores
 pub mod Search

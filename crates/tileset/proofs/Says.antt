@@ -13,8 +13,9 @@ use Rattle.words.specs.Answers.{_when_, firstApplying}
 use Rattle.words.proofs.Answers.{all-passed, not-given, first-given, when-done, when-refused}
 use Rattle.words.proofs.Order.{first-append}
 use Rattle.tileset.specs.Sets.{area, setRoom, roomIn, setChecks, setSays, heldSays, lookChecks, lookSays, answeredSet, heldChecks, roomUnder}
-use Rattle.tileset.specs.Finding.{noPlace, placeOf, placed, Looks}
+use Rattle.tileset.specs.Finding.{noPlace, placeOf, placed}
 use Rattle.tileset.specs.Numbers.{nativeAnswer, logicalAnswer}
+use Rattle.tileset.specs.Inner.{Looks}
 use Rattle.tileset.specs.declared.Set.{Set}
 use Rattle.tileset.specs.declared.SetAnswer.{SetAnswer}
 use Rattle.tileset.specs.declared.Found.{Found}

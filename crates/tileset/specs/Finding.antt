@@ -1,10 +1,9 @@
 -- "A look-up answers a place with its flip, or nothing."
 -- Assumes nothing.
-use mathlib.Core.Path.{_≡_}
 use mathlib.Core.Bool.{Bool, true, false}
 use mathlib.Core.List.{List, [], _∷_, map}
-use Prim.Native.Nat.{ℕ, zero, suc, _+_, _*_, _%_, _^_, _<_, _≤_}
-use lib.ListN.{length, take, drop}
+use Prim.Native.Nat.{ℕ, zero, suc, _*_, _%_, _^_}
+use lib.ListN.{take, drop}
 use Rattle.words.specs.Answers.{unless}
 use Rattle.flip.specs.Matching.{matchFlip}
 use Rattle.flip.specs.declared.Match.{Match}
@@ -61,25 +60,3 @@ placeOf Nothing = noPlace 0
 
 abbrev pub placed : ℕ → Found → Place
 placed n found = unless n (placeOf found) (noPlace n)
-
--- What cutting pixels into a buffer, searching some tiles of a store, and searching a set ask.
-pub record Cuts (depth : ℕ) (pixels out : List ℕ) (at : ℕ) : Type 0 where
-  pub deep : depth ≤ 8
-  pub inside : at + length pixels ≤ length out
-
-pub record Finds (store : List ℕ) (count : ℕ) (tile : List ℕ) (w h : ℕ) : Type 0 where
-  pub some : 0 < w
-  pub eights : w % 8 ≡ 0
-  pub small : w * h ≤ 4096
-  pub inside : count * (w * h) ≤ length store
-  pub whole : length tile ≡ w * h
-
-pub record Looks (z : Set) (store pixels : List ℕ) : Type 0 where
-  pub deep : z .depth ≤ 8
-  pub some : 0 < z .width
-  pub eights : z .width % 8 ≡ 0
-  pub tall : 0 < z .height
-  pub small : area z ≤ 4096
-  pub inside : z .stored * area z ≤ length store
-  pub few : z .stored ≤ 65535
-  pub whole : length pixels ≡ area z

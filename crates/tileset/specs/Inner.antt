@@ -1,4 +1,4 @@
--- What the functions inside ask of their callers, and what they compute on the way.
+-- What the inner functions of tile sets ask of their callers, and what they compute on the way: no export's contract reaches it.
 -- Assumes nothing.
 use mathlib.Core.Path.{_≡_}
 use mathlib.Core.List.{List, [], _∷_}
@@ -11,6 +11,29 @@ use Rattle.tileset.specs.Numbers.{rowCells, firstCell, tileOf}
 use Rattle.tileset.specs.Writing.{writeSize}
 use Rattle.tileset.specs.Reading.{readCount, cellIn, lastCell}
 use Rattle.tileset.specs.declared.Set.{Set}
+
+-- ---- finding: cutting pixels into a buffer, searching some tiles of a store, and searching a set
+
+pub record Cuts (depth : ℕ) (pixels out : List ℕ) (at : ℕ) : Type 0 where
+  pub deep : depth ≤ 8
+  pub inside : at + length pixels ≤ length out
+
+pub record Finds (store : List ℕ) (count : ℕ) (tile : List ℕ) (w h : ℕ) : Type 0 where
+  pub some : 0 < w
+  pub eights : w % 8 ≡ 0
+  pub small : w * h ≤ 4096
+  pub inside : count * (w * h) ≤ length store
+  pub whole : length tile ≡ w * h
+
+pub record Looks (z : Set) (store pixels : List ℕ) : Type 0 where
+  pub deep : z .depth ≤ 8
+  pub some : 0 < z .width
+  pub eights : z .width % 8 ≡ 0
+  pub tall : 0 < z .height
+  pub small : area z ≤ 4096
+  pub inside : z .stored * area z ≤ length store
+  pub few : z .stored ≤ 65535
+  pub whole : length pixels ≡ area z
 
 -- ---- numbers, writing and reading
 

@@ -1,5 +1,6 @@
 pub mod Sets
 pub mod Finding
+pub mod Inner
 pub mod Matched
 pub mod Keeping
 pub mod Adding

@@ -9,9 +9,12 @@ use words::refusal;
 use crate::sets::set_room;
 ghost use mathlib.Core.Path.{_≡_};
 ghost use lib.ListN.{length};
-ghost use Rattle.tileset.specs.Sets.{roomIn};
-ghost use Rattle.tileset.specs.Finding.{Looks};
-ghost use Rattle.tileset.specs.Adding.{Stores, discardAnswer, AddsTile};
+ghost use Rattle.tileset.specs.Sets.{roomIn, setRoom, area, answeredSet};
+ghost use Rattle.tileset.specs.Finding.{Looks, cutTo};
+ghost use Rattle.tileset.specs.Adding.{Stores, discardAnswer, AddsTile, oneStored, oneDiscarded, addSays, added, storeWith, Adds};
+ghost use lib.Seq.{sets};
+ghost use Rattle.words.specs.Answers.{_when_};
+ghost use Rattle.tileset.specs.Inner.{Looks};
 
 // The tile goes at the end, where there is room.
 fn append(set: Set, store: &mut [u8], pixels: &[u8]) -> SetAnswer

@@ -10,7 +10,8 @@ ghost use Prim.Native.Nat.{_*_};
 ghost use lib.ListN.{length};
 ghost use lib.Seq.{sets};
 ghost use Rattle.tileset.specs.Sets.{lookSays};
-ghost use Rattle.tileset.specs.Finding.{cutTo, tilesIn, lookUp, foundIn, noPlace, placeOf, placed, Cuts, Finds, Looks};
+ghost use Rattle.tileset.specs.Finding.{cutTo, tilesIn, lookUp, foundIn, noPlace, placeOf, placed};
+ghost use Rattle.tileset.specs.Inner.{Cuts, Finds, Looks};
 
 // The pixels, cut to their low depth bits, from place at of out on.
 pub fn put_cut(depth: u32, pixels: &[u8], out: &mut [u8], at: usize)

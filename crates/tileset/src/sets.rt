@@ -2,6 +2,7 @@
 use crate::Set;
 use crate::SetAnswer;
 use mode::Mode;
+use words::refusal;
 ghost use mathlib.Core.Path.{_≡_};
 ghost use mathlib.Core.List.{[]};
 ghost use Rattle.tileset.specs.Sets.{isSide, isWidth, isHeight, setSays, roomUnder, setRoom, heldSays, lookSays, noSet, emptied, newSet, answeredSet};
@@ -24,10 +25,10 @@ fn is_side(n: u32) -> bool
 pub fn is_width(mode: u32, width: u32) -> bool
     ensures { λ r. ⌜ r ≡ isWidth mode width ⌝ }
 {
-    if mode == 0 {
+    if mode == Mode::SNES.0 {
         return is_side(width);
     }
-    if mode == 10 {
+    if mode == Mode::PCE_SPRITE.0 {
         if width == 16 {
             return true;
         }
@@ -39,7 +40,7 @@ pub fn is_width(mode: u32, width: u32) -> bool
 pub fn is_height(mode: u32, height: u32) -> bool
     ensures { λ r. ⌜ r ≡ isHeight mode height ⌝ }
 {
-    if mode == 10 {
+    if mode == Mode::PCE_SPRITE.0 {
         if height == 8 {
             return false;
         }
@@ -53,16 +54,16 @@ pub fn set_says(mode: u32, depth: u32, width: u32, height: u32) -> u32
     ensures { λ r. ⌜ r ≡ setSays mode depth width height ⌝ }
 {
     if 15 < mode {
-        return 1;
+        return refusal::MODE;
     }
     if !Mode(mode).has_depth(depth) {
-        return 3;
+        return refusal::DEPTH;
     }
     if !is_width(mode, width) {
-        return 4;
+        return refusal::SIZE;
     }
     if !is_height(mode, height) {
-        return 4;
+        return refusal::SIZE;
     }
     0
 }
@@ -156,7 +157,7 @@ pub fn held_says(set: Set, len: usize) -> u32
     }
     let n = (set.width * set.height) as usize;
     if set_room(set.limit, len / n) < set.stored as usize {
-        return 6;
+        return refusal::COUNT;
     }
     0
 }
@@ -170,7 +171,7 @@ pub fn look_says(set: Set, len: usize, given: usize) -> u32
         return refusal;
     }
     if given != (set.width * set.height) as usize {
-        return 7;
+        return refusal::LENGTH;
     }
     0
 }

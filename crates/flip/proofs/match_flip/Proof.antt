@@ -15,7 +15,9 @@ returns c = simp (sym (c .before .same-flipped .ensures) ∙ c .if1 .taken)
 
 returns-2 : tie.Need-returns-2
 unfolding matchFlip
-returns-2 c = simp (sym (c .before .before .same-flipped .ensures) ∙ c .before .if1 .left, not-true (c .before .before .before .before .before .args .flips) (c .if2 .taken))
+returns-2 c =
+    let first = c .before in
+    simp (sym (first .before .same-flipped .ensures) ∙ first .if1 .left, not-true (first .before .before .before .before .args .flips) (c .if2 .taken))
 
 same-flipped-requires-2 : tie.Need-same-flipped-requires-2
 same-flipped-requires-2 c κs = search needs
@@ -23,7 +25,13 @@ same-flipped-requires-2 c κs = search needs
 returns-3 : tie.Need-returns-3
 unfolding matchFlip
 returns-3 c =
-    simp (sym (c .before .before .before .before .same-flipped .ensures) ∙ c .before .before .before .if1 .left, not-false (c .before .before .before .before .before .before .before .args .flips) (c .before .before .if2 .left), sym (c .before .same-flipped2 .ensures) ∙ c .if3 .taken)
+    let on = c .before .before in
+    let first = on .before in
+    simp (
+      sym (first .before .same-flipped .ensures) ∙ first .if1 .left,
+      not-false (first .before .before .before .before .args .flips) (on .if2 .left),
+      sym (c .before .same-flipped2 .ensures) ∙ c .if3 .taken,
+    )
 
 same-flipped-requires-3 : tie.Need-same-flipped-requires-3
 same-flipped-requires-3 c κs = search needs
@@ -31,10 +39,13 @@ same-flipped-requires-3 c κs = search needs
 returns-4 : tie.Need-returns-4
 unfolding matchFlip
 returns-4 c =
+    let second = c .before .before in
+    let on = second .before .before in
+    let first = on .before in
     simp (
-      sym (c .before .before .before .before .before .before .same-flipped .ensures) ∙ c .before .before .before .before .before .if1 .left,
-      not-false (c .before .before .before .before .before .before .before .before .before .args .flips) (c .before .before .before .before .if2 .left),
-      sym (c .before .before .before .same-flipped2 .ensures) ∙ c .before .before .if3 .left,
+      sym (first .before .same-flipped .ensures) ∙ first .if1 .left,
+      not-false (first .before .before .before .before .args .flips) (on .if2 .left),
+      sym (second .before .same-flipped2 .ensures) ∙ second .if3 .left,
       sym (c .before .same-flipped3 .ensures) ∙ c .if4 .taken,
     )
 
@@ -44,22 +55,30 @@ same-flipped-requires-4 c κs = search needs
 returns-5 : tie.Need-returns-5
 unfolding matchFlip
 returns-5 c =
+    let third = c .before .before in
+    let second = third .before .before in
+    let on = second .before .before in
+    let first = on .before in
     simp (
-      sym (c .before .before .before .before .before .before .before .before .same-flipped .ensures) ∙ c .before .before .before .before .before .before .before .if1 .left,
-      not-false (c .before .before .before .before .before .before .before .before .before .before .before .args .flips) (c .before .before .before .before .before .before .if2 .left),
-      sym (c .before .before .before .before .before .same-flipped2 .ensures) ∙ c .before .before .before .before .if3 .left,
-      sym (c .before .before .before .same-flipped3 .ensures) ∙ c .before .before .if4 .left,
+      sym (first .before .same-flipped .ensures) ∙ first .if1 .left,
+      not-false (first .before .before .before .before .args .flips) (on .if2 .left),
+      sym (second .before .same-flipped2 .ensures) ∙ second .if3 .left,
+      sym (third .before .same-flipped3 .ensures) ∙ third .if4 .left,
       sym (c .before .same-flipped4 .ensures) ∙ c .if5 .taken,
     )
 
 returns-6 : tie.Need-returns-6
 unfolding matchFlip
 returns-6 c =
+    let third = c .before .before in
+    let second = third .before .before in
+    let on = second .before .before in
+    let first = on .before in
     simp (
-      sym (c .before .before .before .before .before .before .before .before .same-flipped .ensures) ∙ c .before .before .before .before .before .before .before .if1 .left,
-      not-false (c .before .before .before .before .before .before .before .before .before .before .before .args .flips) (c .before .before .before .before .before .before .if2 .left),
-      sym (c .before .before .before .before .before .same-flipped2 .ensures) ∙ c .before .before .before .before .if3 .left,
-      sym (c .before .before .before .same-flipped3 .ensures) ∙ c .before .before .if4 .left,
+      sym (first .before .same-flipped .ensures) ∙ first .if1 .left,
+      not-false (first .before .before .before .before .args .flips) (on .if2 .left),
+      sym (second .before .same-flipped2 .ensures) ∙ second .if3 .left,
+      sym (third .before .same-flipped3 .ensures) ∙ third .if4 .left,
       sym (c .before .same-flipped4 .ensures) ∙ c .if5 .left,
     )
 

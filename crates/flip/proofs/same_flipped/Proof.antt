@@ -8,7 +8,7 @@ use borrow.Author.Tests.{not-true, not-false}
 use borrow.Author.Count.{below-more}
 use borrow.Author.Needs.{needs}
 use Rattle.flip.specs.Flips.{turned}
-use Rattle.flip.specs.Matching.{RowAs}
+use Rattle.flip.specs.Inner.{RowAs}
 use Rattle.flip.proofs.Rows.{row-inside, rows-agree, row-differs, row-told}
 use Rattle.flip.proofs.same_flipped.Statement.{statement}
 use Rattle.flip.proofs.same_flipped.Tie as tie
@@ -20,11 +20,18 @@ abbrev μ-loop : tie.MeasureT-loop
 μ-loop store at tile width height f y₀ y = height - y
 
 -- the store's row and the tile's are inside
-store-row : (c : tie.After-turned Inv-loop μ-loop) → c .turned .result * c .before .before .before .before .before .args .width + c .before .before .before .before .before .args .width ≤ c .before .before .before .before .before .args .width * c .before .before .before .before .before .args .height
-store-row c = row-inside (c .before .before .before .before .before .args .width) (c .before .before .before .before .before .args .height) (c .turned .result) (c .turned .ensures .1)
+module _ (c : tie.After-turned Inv-loop μ-loop) where
+  abbrev width : ℕ
+  width = c .before .before .before .before .before .args .width
 
-tile-row : (c : tie.After-turned Inv-loop μ-loop) → c .before .before .loop .y * c .before .before .before .before .before .args .width + c .before .before .before .before .before .args .width ≤ c .before .before .before .before .before .args .width * c .before .before .before .before .before .args .height
-tile-row c = row-inside (c .before .before .before .before .before .args .width) (c .before .before .before .before .before .args .height) (c .before .before .loop .y) (c .before .loop-test .taken)
+  abbrev height : ℕ
+  height = c .before .before .before .before .before .args .height
+
+  store-row : c .turned .result * width + width ≤ width * height
+  store-row = row-inside width height (c .turned .result) (c .turned .ensures .1)
+
+  tile-row : c .before .before .loop .y * width + width ≤ width * height
+  tile-row = row-inside width height (c .before .before .loop .y) (c .before .loop-test .taken)
 
 loop-holds : tie.Need-loop-holds Inv-loop μ-loop
 loop-holds c = (search needs, λ k p. absurd (omega arith))
@@ -47,9 +54,11 @@ same-row-requires c κs =
 
 returns : tie.Need-returns Inv-loop μ-loop
 returns c =
-    let s = c .before .before .before .before .before .before .before in
-    sym (row-differs (s .args .f) _ _ _ _ _ (s .pre) (c .before .before .before .before .loop .y) (c .before .before .before .loop-test .taken)
-    (row-told _ _ _ _ _ _ _ _ (c .before .same-row .result) false (c .before .before .turned .ensures .0) (not-true (c .before .same-row .result) (c .if1 .taken)) (c .before .same-row .ensures)))
+    let row = c .before .same-row in
+    let turn = c .before .before .before in
+    let s = turn .before .before .before .before in
+    sym (row-differs (s .args .f) _ _ _ _ _ (s .pre) (turn .before .loop .y) (turn .loop-test .taken)
+    (row-told _ _ _ _ _ _ _ _ (row .result) false (c .before .before .turned .ensures .0) (not-true (row .result) (c .if1 .taken)) (row .ensures)))
 
 add-y : tie.Need-add-y Inv-loop μ-loop
 add-y c = search needs
@@ -59,10 +68,12 @@ loop-less c = search needs
 
 loop-again : tie.Need-loop-again Inv-loop μ-loop
 loop-again c =
-    let s = c .before .before .before .before .before .before .before .args in (
+    let row = c .before .same-row in
+    let lp = c .before .before .before .before in
+    let s = lp .before .before .before .args in (
       search needs,
-      below-more (λ (k : ℕ). RowAs (s .f .h) (now (s .store)) (s .at + turned (s .f .v) (s .height) k * s .width) (now (s .tile)) (k * s .width) (s .width) true) _ (c .before .before .before .before .loop .inv .1)
-          (row-told _ _ _ _ _ _ _ _ (c .before .same-row .result) true (c .before .before .turned .ensures .0) (not-false (c .before .same-row .result) (c .if1 .left)) (c .before .same-row .ensures)),
+      below-more (λ (k : ℕ). RowAs (s .f .h) (now (s .store)) (s .at + turned (s .f .v) (s .height) k * s .width) (now (s .tile)) (k * s .width) (s .width) true) _ (lp .loop .inv .1)
+          (row-told _ _ _ _ _ _ _ _ (row .result) true (c .before .before .turned .ensures .0) (not-false (row .result) (c .if1 .left)) (row .ensures)),
     )
 
 returns-2 : tie.Need-returns-2 Inv-loop μ-loop

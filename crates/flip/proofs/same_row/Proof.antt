@@ -6,7 +6,7 @@ use lib.ListN.{getD}
 use denote.Ref.{now}
 use borrow.Author.Needs.{needs}
 use Rattle.flip.specs.Flips.{turned}
-use Rattle.flip.specs.Matching.{Eight, eightFrom}
+use Rattle.flip.specs.Inner.{Eight, eightFrom}
 use Rattle.flip.proofs.Eights.{eight-left, eight-differs, eight-agrees}
 use Rattle.flip.proofs.same_row.Statement.{statement}
 use Rattle.flip.proofs.same_row.Tie as tie
@@ -21,10 +21,15 @@ abbrev μ-loop : tie.MeasureT-loop
 left : (c : tie.In-loop Inv-loop μ-loop) → c .before .loop .x + 8 ≤ c .before .before .before .before .args .width
 left c = eight-left _ _ (c .before .before .before .before .pre .eights) (c .before .loop .inv .1) (c .loop-test .taken)
 
-stored : (c : tie.After-eight2 Inv-loop μ-loop) → Eight (c .before .before .before .before .before .before .before .args .across) (now (c .before .before .before .before .before .before .before .args .store)) (c .before .before .before .before .before .before .before .args .from + eightFrom (c .before .before .before .before .before .before .before .args .across) (c .before .before .before .before .before .before .before .args .width) (c .before .before .before .before .loop .x)) (c .before .eight .result)
-stored c =
-    subst (λ (e : ℕ). Eight (c .before .before .before .before .before .before .before .args .across) (now (c .before .before .before .before .before .before .before .args .store)) (c .before .before .before .before .before .before .before .args .from + e) (c .before .eight .result)) (c .before .before .eight-from .ensures .0)
-    (c .before .eight .ensures)
+module _ (c : tie.After-eight2 Inv-loop μ-loop) where
+  abbrev start : tie.Start Inv-loop μ-loop
+  start = c .before .before .before .before .before .before .before
+
+  abbrev from-at : ℕ → Type 0
+  from-at e = Eight (start .args .across) (now (start .args .store)) (start .args .from + e) (c .before .eight .result)
+
+  stored : from-at (eightFrom (start .args .across) (start .args .width) (c .before .before .before .before .loop .x))
+  stored = subst from-at (c .before .before .eight-from .ensures .0) (c .before .eight .ensures)
 
 loop-holds : tie.Need-loop-holds Inv-loop μ-loop
 loop-holds c = search needs
@@ -56,7 +61,8 @@ loop-less c = search needs
 
 loop-again : tie.Need-loop-again Inv-loop μ-loop
 loop-again c =
-    (search needs, search needs, eight-agrees _ _ _ _ _ _ _ (left (c .before .before .before .before)) _ _ (stored (c .before)) (c .before .eight2 .ensures) (c .if1 .left) (c .before .before .before .before .before .loop .inv .2))
+    let turn = c .before .before .before .before in
+    (search needs, search needs, eight-agrees _ _ _ _ _ _ _ (left turn) _ _ (stored (c .before)) (c .before .eight2 .ensures) (c .if1 .left) (turn .before .loop .inv .2))
 
 returns-2 : tie.Need-returns-2 Inv-loop μ-loop
 returns-2 c = λ k p. c .before .loop .inv .2 k (omega arith)

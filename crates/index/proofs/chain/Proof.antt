@@ -3,7 +3,7 @@ use mathlib.Core.Path.{refl, ap, _∙_}
 use Prim.Native.Nat.{ℕ}
 use lib.ListN.{getD, set}
 use denote.Ref.{now}
-use Rattle.index.specs.Index.{headOf}
+use Rattle.index.specs.Inner.{headOf}
 use borrow.Author.Needs.{needs}
 use Rattle.index.proofs.chain.Statement.{statement}
 use Rattle.index.proofs.chain.Tie as tie
@@ -52,7 +52,9 @@ returns c =
     let a = c .before .before .before .before .before .before .args in
     let b = c .before .before .bucket in
     let h = now (a .heads) in
-    (refl, (ap (λ (k : ℕ). set (now (a .next)) (a .n) (getD h k 0)) (b .ensures .0), ap (λ (x : ℕ). set h (b .result) x) (c .head-of .ensures) ∙ ap (λ (k : ℕ). set h k (headOf (a .found) (getD h k 0) (a .n))) (b .ensures .0)))
+    let link = ap (λ (k : ℕ). set (now (a .next)) (a .n) (getD h k 0)) (b .ensures .0) in
+    let head = ap (λ (k : ℕ). set h k (headOf (a .found) (getD h k 0) (a .n))) (b .ensures .0) in
+    (refl, (link, ap (λ (x : ℕ). set h (b .result) x) (c .head-of .ensures) ∙ head))
 
 pub chain-spec : {M : Type 1} → statement M
 chain-spec =

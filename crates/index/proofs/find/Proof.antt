@@ -44,13 +44,22 @@ link-requires c κs = search needs
 
 loop-less : tie.Need-loop-less Inv-loop μ-loop
 loop-less c =
-    let lp = c .before .before .before .before .loop in
-    omega (arith, search-down _ _ _ _ _ _ _ _ (c .before .before .before .before .before .before .before .before .pre) _ {k = lp .l - 1} (lp .inv .0) (c .before .before .before .loop-test .taken) (omega arith) (lp .inv .1) (c .before .before .match-at .ensures) (c .before .over .ensures) (c .link .ensures))
+    let turn = c .before .before .before in
+    let lp = turn .before .loop in
+    omega (
+      arith,
+      search-down _ _ _ _ _ _ _ _ (turn .before .before .before .before .before .pre) _ {k = lp .l - 1} (lp .inv .0) (turn .loop-test .taken) (omega arith) (lp .inv .1)
+          (c .before .before .match-at .ensures) (c .before .over .ensures) (c .link .ensures),
+    )
 
 loop-again : tie.Need-loop-again Inv-loop μ-loop
 loop-again c =
-    let lp = c .before .before .before .before .loop in
-    (lp .inv .0, search-turn _ _ _ _ _ _ _ _ (c .before .before .before .before .before .before .before .before .pre) _ {k = lp .l - 1} (lp .inv .0) (c .before .before .before .loop-test .taken) (omega arith) (lp .inv .1) (c .before .before .match-at .ensures) (c .before .over .ensures) (c .link .ensures))
+    let turn = c .before .before .before in
+    let lp = turn .before .loop in (
+      lp .inv .0,
+      search-turn _ _ _ _ _ _ _ _ (turn .before .before .before .before .before .pre) _ {k = lp .l - 1} (lp .inv .0) (turn .loop-test .taken) (omega arith) (lp .inv .1)
+          (c .before .before .match-at .ensures) (c .before .over .ensures) (c .link .ensures),
+    )
 
 returns : tie.Need-returns Inv-loop μ-loop
 returns c = search-end _ _ _ _ _ _ _ _ (c .before .before .before .before .before .pre) (omega arith) (c .before .loop .inv .1)

@@ -61,7 +61,11 @@ add-result-3 c = search needs
 returns : tie.Need-returns
 returns c =
     let a = c .before .before .before .before .args in
-    (word-made (flipped (a .f) 8 8 (now (a .tile))) (a .n) (c .before .before .before .pixel .ensures .0) (c .before .before .pixel2 .ensures .0) (c .before .pixel3 .ensures .0) (c .pixel4 .ensures .0), omega (arith, c .before .before .before .pixel .ensures .1, c .before .before .pixel2 .ensures .1, c .before .pixel3 .ensures .1, c .pixel4 .ensures .1))
+    let one = c .before .before .before .pixel .ensures in
+    let two = c .before .before .pixel2 .ensures in
+    let three = c .before .pixel3 .ensures in
+    let four = c .pixel4 .ensures in
+    (word-made (flipped (a .f) 8 8 (now (a .tile))) (a .n) (one .0) (two .0) (three .0) (four .0), omega (arith, one .1, two .1, three .1, four .1))
 
 pub four-spec : {M : Type 1} → statement M
 four-spec =

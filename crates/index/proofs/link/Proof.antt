@@ -1,7 +1,7 @@
 -- A tile of the bucket has the link; another is passed by.
 use mathlib.Core.Path.{sym, _∙_}
 use borrow.Author.Tests.{eq-eqb, ne-eqb}
-use Rattle.index.specs.Index.{linkOf}
+use Rattle.index.specs.Inner.{linkOf}
 use borrow.Author.Needs.{needs}
 use Rattle.index.proofs.link.Statement.{statement}
 use Rattle.index.proofs.link.Tie as tie

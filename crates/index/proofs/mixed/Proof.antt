@@ -3,7 +3,7 @@ use mathlib.Core.Path.{refl}
 use Prim.Native.Nat.{_≤_}
 use native.Mathlib.Nat.{mul-le-mul}
 use native.Mathlib.Omega.{arith}
-use Rattle.index.specs.Key.{mix}
+use Rattle.index.specs.Inner.{mix}
 use Rattle.index.proofs.mixed.Statement.{statement}
 use Rattle.index.proofs.mixed.Tie as tie
 

@@ -30,7 +30,11 @@ more-requires-2 c κs = search needs
 returns : tie.Need-returns
 returns c =
     let s = c .before .before .before .before in
-    (row-more (flipped (s .args .f) 8 8 (now (s .args .tile))) (s .args .y) (s .pre .1) (c .before .before .before .four .ensures .0) (c .before .before .more .ensures .0) (c .before .four2 .ensures .0) (c .more2 .ensures .0), c .more2 .ensures .1)
+    let left = c .before .before in (
+      row-more (flipped (s .args .f) 8 8 (now (s .args .tile))) (s .args .y) (s .pre .1) (left .before .four .ensures .0) (left .more .ensures .0)
+          (c .before .four2 .ensures .0) (c .more2 .ensures .0),
+      c .more2 .ensures .1,
+    )
 
 pub more-row-spec : {M : Type 1} → statement M
 more-row-spec =

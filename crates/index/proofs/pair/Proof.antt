@@ -42,7 +42,9 @@ add-result c = search needs
 returns : tie.Need-returns Inv-loop μ-loop
 returns c =
     let h = c .before .before .before .loop .inv in
-    (pair-made h (omega (arith, h .most, c .before .before .loop-test .left)) (c .before .mixed .ensures .0) (c .mixed2 .ensures .0), omega (arith, c .before .mixed .ensures .1, c .mixed2 .ensures .1))
+    let a = c .before .mixed .ensures in
+    let b = c .mixed2 .ensures in
+    (pair-made h (omega (arith, h .most, c .before .before .loop-test .left)) (a .0) (b .0), omega (arith, a .1, b .1))
 
 pub pair-spec : {M : Type 1} → statement M
 pair-spec =

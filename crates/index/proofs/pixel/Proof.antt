@@ -19,8 +19,9 @@ wide-requires c κs = search needs
 
 returns : tie.Need-returns
 returns c =
-    let a = c .before .before .before .args in
-    (c .wide .ensures .0 ∙ ap (λ (k : ℕ). getD (now (a .tile)) k 0) (c .before .before .flip-at .ensures .0) ∙ sym (flipped-at (a .f) 8 8 (now (a .tile)) (a .i) (c .before .before .before .pre)), c .wide .ensures .1)
+    let s = c .before .before .before in
+    let t = now (s .args .tile) in
+    (c .wide .ensures .0 ∙ ap (λ (k : ℕ). getD t k 0) (c .before .before .flip-at .ensures .0) ∙ sym (flipped-at (s .args .f) 8 8 t (s .args .i) (s .pre)), c .wide .ensures .1)
 
 pub pixel-spec : {M : Type 1} → statement M
 pixel-spec = tie.close (tie.spec flip-at-requires element-copy-out-wide wide-requires returns)

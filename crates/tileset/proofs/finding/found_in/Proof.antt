@@ -1,7 +1,7 @@
 -- The pixels are cut into a buffer, and looked for.
 use mathlib.Core.Path.{_≡_, ap, _∙_}
 use mathlib.Core.List.{List}
-use Prim.Native.Nat.{ℕ}
+use Prim.Native.Nat.{ℕ, _≤_}
 use native.Mathlib.Omega.{arith}
 use lib.ListN.{length, take, length-take}
 use denote.Ref.{now}
@@ -12,10 +12,18 @@ use Rattle.tileset.proofs.Stores.{length-cut, cut-front}
 use Rattle.tileset.proofs.finding.found_in.Statement.{statement}
 use Rattle.tileset.proofs.finding.found_in.Tie as tie
 
-tile-is : (c : tie.After-put-cut) → take (length (now (c .before .before .before .before .args .pixels))) (c .put-cut .last .1 .1 .0) ≡ cutTo (c .before .before .before .before .args .set .depth) (now (c .before .before .before .before .args .pixels))
-tile-is c =
-    ap (take (length (now (c .before .before .before .before .args .pixels)))) (c .put-cut .ensures)
-    ∙ cut-front (c .before .before .before .before .args .set .depth) (now (c .before .before .before .before .args .pixels)) _ (omega (arith, c .before .before .before .before .pre .whole, c .before .before .before .before .pre .small))
+module _ (c : tie.After-put-cut) where
+  abbrev start : tie.Start
+  start = c .before .before .before .before
+
+  abbrev pixels : List ℕ
+  pixels = now (start .args .pixels)
+
+  short : length pixels ≤ 4096
+  short = omega (arith, start .pre .whole, start .pre .small)
+
+  tile-is : take (length pixels) (c .put-cut .last .1 .1 .0) ≡ cutTo (start .args .set .depth) pixels
+  tile-is = ap (take (length pixels)) (c .put-cut .ensures) ∙ cut-front (start .args .set .depth) pixels _ (omega (arith, short))
 
 slice-aggregate-put-cut : tie.Need-slice-aggregate-put-cut
 slice-aggregate-put-cut c = search needs
@@ -27,7 +35,7 @@ array-share-prefix-tile : tie.Need-array-share-prefix-tile
 array-share-prefix-tile c = search needs
 
 slice-aggregate-find : tie.Need-slice-aggregate-find
-slice-aggregate-find c = simp length-take (omega (arith, c .before .before .before .before .before .before .pre .whole, c .before .before .before .before .before .before .pre .small))
+slice-aggregate-find c = simp length-take (omega (arith, short (c .before .before)))
 
 cast-find : tie.Need-cast-find
 cast-find c = search needs
@@ -37,21 +45,23 @@ cast-find-2 c = search needs
 
 find-requires : tie.Need-find-requires
 find-requires c κs =
-    let s = c .before .before .before .before .before .before .before .before in
+    let put = c .before .before .before .before in
+    let s = start put in
     record {
       some = s .pre .some;
       eights = s .pre .eights;
       small = s .pre .small;
       inside = s .pre .inside;
-      whole = ap length (tile-is (c .before .before .before .before)) ∙ length-cut (s .args .set .depth) _ ∙ s .pre .whole;
+      whole = ap length (tile-is put) ∙ length-cut (s .args .set .depth) _ ∙ s .pre .whole;
     }
 
 returns : tie.Need-returns
 unfolding foundIn
 returns c =
-    let a = c .before .before .before .before .before .before .before .before .before .args in
-    let z = a .set in
-    c .find .ensures ∙ ap (λ (t : List ℕ). lookUp (z .flips) (z .width) (z .height) (tilesIn (area z) (now (a .store)) (z .stored)) t) (tile-is (c .before .before .before .before .before))
+    let put = c .before .before .before .before .before in
+    let z = start put .args .set in
+    let tiles = tilesIn (area z) (now (start put .args .store)) (z .stored) in
+    c .find .ensures ∙ ap (λ (t : List ℕ). lookUp (z .flips) (z .width) (z .height) tiles t) (tile-is put)
 
 pub found-in-spec : {M : Type 1} → statement M
 found-in-spec =

@@ -15,8 +15,10 @@ no-place-requires c κs = search needs
 
 returns : tie.Need-returns
 returns c =
-    let a = c .before .before .before .before .before .args in
-    c .no-place .ensures ∙ refused-place (c .before .before .look-says .result) (foundIn (a .set) (now (a .store)) (now (a .pixels))) (c .before .before .look-says .ensures) (c .before .if1 .taken)
+    let said = c .before .before in
+    let a = said .before .before .before .args in
+    c .no-place .ensures
+    ∙ refused-place (said .look-says .result) (foundIn (a .set) (now (a .store)) (now (a .pixels))) (said .look-says .ensures) (c .before .if1 .taken)
 
 found-in-requires : tie.Need-found-in-requires
 found-in-requires c κs = looks-of _ _ _ (sym (c .before .look-says .ensures) ∙ c .if1 .left)
@@ -26,9 +28,10 @@ place-of-requires c κs = search needs
 
 returns-2 : tie.Need-returns-2
 returns-2 c =
-    let a = c .before .before .before .before .before .before .args in
+    let said = c .before .before .before in
+    let a = said .before .before .before .args in
     c .place-of .ensures ∙ ap placeOf (c .before .found-in .ensures)
-    ∙ done-place (foundIn (a .set) (now (a .store)) (now (a .pixels))) (sym (c .before .before .before .look-says .ensures) ∙ c .before .before .if1 .left)
+    ∙ done-place (foundIn (a .set) (now (a .store)) (now (a .pixels))) (sym (said .look-says .ensures) ∙ c .before .before .if1 .left)
 
 pub look-up-spec : {M : Type 1} → statement M
 look-up-spec =

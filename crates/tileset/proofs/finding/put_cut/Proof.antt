@@ -1,22 +1,26 @@
 -- The pixels before i are put.
 use mathlib.Core.Path.{ap, _∙_}
+use mathlib.Core.List.{List, [], _∷_}
 use Prim.Native.Nat.{ℕ, _%_, _^_, _≤_, _-_}
 use native.Mathlib.Nat.{mod-le}
 use native.Mathlib.Omega.{arith}
-use lib.ListN.{length}
+use lib.ListN.{length, getD}
+use lib.Seq.{sets}
+use denote.Ref.{now}
 use borrow.Author.Needs.{needs}
-use Rattle.tileset.proofs.Stores.{Cutting, cut-none, cut-more, cut-all}
+use Rattle.words.proofs.Filling.{Filled, filled-none, filled-one, filled-all}
+use Rattle.tileset.proofs.Stores.{each-cut}
 use Rattle.tileset.proofs.finding.put_cut.Statement.{statement}
 use Rattle.tileset.proofs.finding.put_cut.Tie as tie
 
 abbrev Inv-loop : tie.InvT-loop
-Inv-loop depth pixels out₀ at i₀ out i = (i ≤ length pixels) × Cutting depth pixels out₀ at i out
+Inv-loop depth pixels out₀ at i₀ out i = (i ≤ length pixels) × Filled (λ k. getD pixels k 0 % 2 ^ depth ∷ []) out₀ at i out
 
 abbrev μ-loop : tie.MeasureT-loop
 μ-loop depth pixels out₀ at i₀ out i = length pixels - i
 
 loop-holds : tie.Need-loop-holds Inv-loop μ-loop
-loop-holds c = (search needs, cut-none (c .before .before .args .depth) _ _ _)
+loop-holds c = (search needs, filled-none _ _ _)
 
 shared-slice-read-wide : tie.Need-shared-slice-read-wide Inv-loop μ-loop
 shared-slice-read-wide c = search needs
@@ -28,7 +32,9 @@ low-requires : tie.Need-low-requires Inv-loop μ-loop
 low-requires c κs = search needs
 
 cast-out : tie.Need-cast-out Inv-loop μ-loop
-cast-out c = omega (arith, c .low .ensures, c .before .wide .ensures .1, mod-le (c .before .wide .result) (2 ^ c .before .before .before .before .before .before .before .args .depth))
+cast-out c =
+    let depth = c .before .before .before .before .before .before .before .args .depth in
+    omega (arith, c .low .ensures, c .before .wide .ensures .1, mod-le (c .before .wide .result) (2 ^ depth))
 
 add-out : tie.Need-add-out Inv-loop μ-loop
 add-out c = search needs
@@ -44,15 +50,18 @@ loop-less c = search needs
 
 loop-again : tie.Need-loop-again Inv-loop μ-loop
 loop-again c =
-    let st = c .before .before .before .before .before .before .before in
-    let lp = c .before .before .before .before .loop in
-    (search needs, cut-more (lp .inv .1) (st .pre .inside) (c .before .before .before .loop-test .taken) (c .low .ensures ∙ ap (λ (k : ℕ). k % 2 ^ st .args .depth) (c .before .wide .ensures .0)))
+    let lp = c .before .before .before .before in
+    let depth = lp .before .before .before .args .depth in
+    (search needs, filled-one (lp .loop .inv .1) (c .low .ensures ∙ ap (λ (k : ℕ). k % 2 ^ depth) (c .before .wide .ensures .0)))
 
 same-length : tie.Need-same-length Inv-loop μ-loop
-same-length c = search needs
+same-length c = c .before .loop .inv .1 .long
 
 returns : tie.Need-returns Inv-loop μ-loop
-returns c = cut-all (c .before .loop .inv .1) (c .before .before .before .before .pre .inside) (omega arith)
+returns c =
+    let a = c .before .before .before .before .args in
+    filled-all (length (now (a .pixels))) (c .before .loop .inv .1) (omega arith)
+    ∙ ap (λ (l : List ℕ). sets (now (a .out)) (a .at) l) (each-cut (a .depth) (now (a .pixels)))
 
 pub put-cut-spec : {M : Type 1} → statement M
 put-cut-spec =

@@ -1,15 +1,23 @@
 -- The checks of the size, then the room.
-use mathlib.Core.Path.{sym, _∙_}
+use mathlib.Core.Path.{_≡_, sym, _∙_}
 use native.Mathlib.Nat.{mul-pos}
 use native.Mathlib.Omega.{arith}
 use borrow.Author.Needs.{needs}
+use Rattle.tileset.specs.declared.Set.{Set}
 use Rattle.tileset.proofs.Sizes.{IsSet, set-of}
-use Rattle.tileset.proofs.Says.{held-first, held-6, held-0}
+use Rattle.tileset.proofs.Says.{says, held-first, held-6, held-0}
 use Rattle.tileset.proofs.sets.held_says.Statement.{statement}
 use Rattle.tileset.proofs.sets.held_says.Tie as tie
 
-sound : (c : tie.Else1) → IsSet (c .before .before .args .set .mode) (c .before .before .args .set .depth) (c .before .before .args .set .width) (c .before .before .args .set .height)
-sound c = set-of _ _ _ _ (sym (c .before .set-says .ensures) ∙ c .if1 .left)
+module _ (c : tie.Else1) where
+  abbrev set : Set
+  set = c .before .before .args .set
+
+  fine : says set ≡ 0
+  fine = sym (c .before .set-says .ensures) ∙ c .if1 .left
+
+  sound : IsSet (set .mode) (set .depth) (set .width) (set .height)
+  sound = set-of _ _ _ _ fine
 
 set-says-requires : tie.Need-set-says-requires
 set-says-requires c κs = search needs
@@ -33,10 +41,14 @@ cast-if2 : tie.Need-cast-if2
 cast-if2 c = search needs
 
 returns-2 : tie.Need-returns-2
-returns-2 c = held-6 (c .before .before .before .before .before .before .args .set) _ (sym (c .before .before .before .before .before .set-says .ensures) ∙ c .before .before .before .before .if1 .left) (omega (arith, c .before .before .set-room .ensures, c .if2 .taken))
+returns-2 c =
+    let passed = c .before .before .before .before in
+    held-6 (set passed) _ (fine passed) (omega (arith, c .before .before .set-room .ensures, c .if2 .taken))
 
 returns-3 : tie.Need-returns-3
-returns-3 c = held-0 (c .before .before .before .before .before .before .args .set) _ (sym (c .before .before .before .before .before .set-says .ensures) ∙ c .before .before .before .before .if1 .left) (omega (arith, c .before .before .set-room .ensures, c .if2 .left))
+returns-3 c =
+    let passed = c .before .before .before .before in
+    held-0 (set passed) _ (fine passed) (omega (arith, c .before .before .set-room .ensures, c .if2 .left))
 
 pub held-says-spec : {M : Type 1} → statement M
 held-says-spec =

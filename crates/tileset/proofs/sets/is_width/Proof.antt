@@ -4,6 +4,8 @@ use mathlib.Core.Bool.{or-false}
 use lib.Dec.{eqb}
 use borrow.Author.Tests.{eq-eqb, ne-eqb}
 use borrow.Author.Needs.{needs}
+use Rattle.mode.specs.Table.{pce-sprite}
+use Rattle.tileset.specs.Sets.{snes}
 use Rattle.tileset.proofs.sets.is_width.Statement.{statement}
 use Rattle.tileset.proofs.sets.is_width.Tie as tie
 
@@ -11,17 +13,20 @@ is-side-requires : tie.Need-is-side-requires
 is-side-requires c κs = search needs
 
 returns : tie.Need-returns
-returns c = rw (eq-eqb _ 0 (c .before .if1 .taken)) (c .is-side .ensures)
+returns c = rw (eq-eqb _ snes (c .before .if1 .taken)) (c .is-side .ensures)
 
 returns-2 : tie.Need-returns-2
-returns-2 c = rw (ne-eqb _ 0 (c .before .before .if1 .left), eq-eqb _ 10 (c .before .if2 .taken), eq-eqb _ 16 (c .if3 .taken))
+returns-2 c = rw (ne-eqb _ snes (c .before .before .before .if1 .left), eq-eqb _ pce-sprite (c .before .if2 .taken), eq-eqb _ 16 (c .if3 .taken))
 
 returns-3 : tie.Need-returns-3
 returns-3 c =
-    rw (ne-eqb _ 0 (c .before .before .if1 .left), eq-eqb _ 10 (c .before .if2 .taken), ne-eqb _ 16 (c .if3 .left)) (sym (or-false (eqb (c .before .before .before .args .width) 32)))
+    let a = c .before .before .before .before .before .args in
+    rw (ne-eqb _ snes (c .before .before .before .if1 .left), eq-eqb _ pce-sprite (c .before .if2 .taken), ne-eqb _ 16 (c .if3 .left)) (sym (or-false (eqb (a .width) 32)))
 
 returns-4 : tie.Need-returns-4
-returns-4 c = rw (ne-eqb _ 0 (c .before .if1 .left), ne-eqb _ 10 (c .if2 .left)) (sym (or-false (eqb (c .before .before .args .width) 8)))
+returns-4 c =
+    let a = c .before .before .before .before .args in
+    rw (ne-eqb _ snes (c .before .before .if1 .left), ne-eqb _ pce-sprite (c .if2 .left)) (sym (or-false (eqb (a .width) 8)))
 
 pub is-width-spec : {M : Type 1} → statement M
 is-width-spec = tie.close (tie.spec is-side-requires returns returns-2 returns-3 returns-4)

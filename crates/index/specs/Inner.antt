@@ -1,15 +1,39 @@
--- When an index of stored 8x8 tiles is true, and what searching it and entering a tile ask.
+-- The index of stored 8x8 tiles, all of it scaffolding of proofs, which no export's contract reaches: keys, when an index is true, and what it asks.
 -- Assumes nothing.
 use mathlib.Core.Path.{_≡_}
-use mathlib.Core.Bool.{Bool, true, cond}
+use mathlib.Core.Bool.{Bool, true, false, cond}
 use mathlib.Core.List.{List, []}
-use Prim.Native.Nat.{ℕ, _+_, _*_, _%_, _<_, _≤_}
+use Prim.Native.Nat.{ℕ, zero, suc, _+_, _*_, _/_, _%_, _<_, _≤_}
 use lib.Dec.{eqb}
 use lib.ListN.{length, getD, take, drop}
+use Rattle.flip.specs.Flips.{flip, flipped}
 use Rattle.flip.specs.Matching.{matches}
 use Rattle.tileset.specs.Finding.{tilesIn, lookUp, isFound}
 use Rattle.tileset.specs.declared.Found.{Found}
-use Rattle.index.specs.Key.{key}
+
+-- ---- the key of a tile, which no allowed flip changes: a hash, summed over the four flips, or with flips off over two
+
+-- Four pixels of a tile, from place 4n on, as one number.
+unfoldable pub word : List ℕ → ℕ → ℕ
+word t n = getD t (4 * n) 0 + 256 * getD t (4 * n + 1) 0 + (65536 * getD t (4 * n + 2) 0 + 16777216 * getD t (4 * n + 3) 0)
+
+-- The hash of the first n of them.
+unfoldable pub hash : List ℕ → ℕ → ℕ
+hash t zero = 0
+hash t (suc n) = (hash t n * 10368889 + word t n) % 4294967296
+
+unfoldable pub mix : ℕ → ℕ
+mix x = x * x / 4294967296
+
+-- The hashes of a tile and of the same turned across, both turned down or neither: a pixel that is high in a number of the one, where little of it
+-- stays in the hash, is low in the other.
+unfoldable pub pair : Bool → List ℕ → ℕ
+pair v t = mix (hash (flipped (flip false v) 8 8 t) 16) + mix (hash (flipped (flip true v) 8 8 t) 16)
+
+unfoldable pub key : Bool → List ℕ → ℕ
+key on t = cond on (pair false t + pair true t) (pair false t) % 4294967296
+
+-- ---- when an index is true
 
 -- The bucket of a tile.
 abbrev pub bucketOf : Bool → List ℕ → ℕ
@@ -39,13 +63,15 @@ linkOf keys next b k = cond (eqb (getD keys k 0 % 4096) b) (getD next k 0) k
 abbrev pub headOf : Found → ℕ → ℕ → ℕ
 headOf found head n = cond (isFound found) head (n + 1)
 
--- What looking at stored tile k asks, where q is the key of the tile.
+-- ---- what looking, searching and entering ask
+
+-- Looking at stored tile k, where q is the key of the tile.
 pub record LooksAt (on : Bool) (store keys tile : List ℕ) (k q : ℕ) : Type 0 where
   pub place : k < 4096
   pub keyed : getD keys k 0 ≡ key on (take 64 (drop (k * 64) store))
   pub its : q ≡ key on tile
 
--- What a search among the first count tiles of a store asks, and what entering one more asks.
+-- A search among the first count tiles of a store, and entering one more.
 pub record Searches (on : Bool) (store keys heads next : List ℕ) (count : ℕ) (tile : List ℕ) (q : ℕ) : Type 0 where
   pub few : count ≤ 4096
   pub index : Indexed on (tilesIn 64 store count) keys heads next

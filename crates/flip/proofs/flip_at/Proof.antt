@@ -1,9 +1,9 @@
 -- The row and the column are turned each for itself.
 use native.Mathlib.Omega.{arith}
 use Rattle.flip.specs.Flips.{flipAt}
 use borrow.Author.Needs.{needs}
-use Rattle.index.proofs.flip_at.Statement.{statement}
-use Rattle.index.proofs.flip_at.Tie as tie
+use Rattle.flip.proofs.flip_at.Statement.{statement}
+use Rattle.flip.proofs.flip_at.Tie as tie
 
 turned-requires : tie.Need-turned-requires
 turned-requires c κs = search needs
