@@ -8,4 +8,3 @@ pub mod History
 pub mod Numbers
 pub mod Writing
 pub mod Reading
-pub mod Inner

@@ -5,15 +5,12 @@ use crate::SetAnswer;
 use crate::finding::found_in;
 use crate::finding::put_cut;
 use crate::sets::look_says;
-use words::refusal;
 use crate::sets::set_room;
+use words::refusal;
 ghost use mathlib.Core.Path.{_≡_};
 ghost use lib.ListN.{length};
-ghost use Rattle.tileset.specs.Sets.{roomIn, setRoom, area, answeredSet};
-ghost use Rattle.tileset.specs.Finding.{Looks, cutTo};
-ghost use Rattle.tileset.specs.Adding.{Stores, discardAnswer, AddsTile, oneStored, oneDiscarded, addSays, added, storeWith, Adds};
-ghost use lib.Seq.{sets};
-ghost use Rattle.words.specs.Answers.{_when_};
+ghost use Rattle.tileset.specs.Sets.{roomIn};
+ghost use Rattle.tileset.specs.Adding.{Stores, discardAnswer, AddsTile};
 ghost use Rattle.tileset.specs.Inner.{Looks};
 
 // The tile goes at the end, where there is room.
