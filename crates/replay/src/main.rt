@@ -12,10 +12,13 @@ use words::Number;
 use words::Written;
 ghost use Prim.Native.Nat.{_+_, _^_, _<_, _≤_};
 ghost use lib.ListN.{length};
-ghost use Rattle.replay.specs.Spans.{Inside};
+ghost use Rattle.replay.specs.Inner.{Inside, listSpace};
 
 // What no call writes.
 const NOISE: u8 = 0xa5;
+
+// The most bytes of the list.
+const LIST_SPACE: usize = 262144;
 
 // The bytes of a line from one place up to another.
 struct Span {
@@ -549,7 +552,7 @@ fn counted(t: Tally, kind: u32, line: &[u8]) -> Tally
 }
 
 fn replay(s: &[u8], kind: u32) -> Tally
-    requires { ⌜ length (now s) ≤ 262144 ⌝ }
+    requires { ⌜ length (now s) ≤ listSpace ⌝ }
 {
     let mut t = Tally {
         lines: 0,
@@ -570,7 +573,7 @@ fn print(text: &[u8]) {
 
 // How many lines there are.
 fn line_count(s: &[u8]) -> usize
-    requires { ⌜ length (now s) ≤ 262144 ⌝ }
+    requires { ⌜ length (now s) ≤ listSpace ⌝ }
 {
     let mut lines: usize = 0;
     let mut at: usize = 0;
@@ -591,7 +594,7 @@ fn print_tally(lines: usize, different: usize) {
 }
 
 fn report_kind(s: &[u8], kind: u32)
-    requires { ⌜ length (now s) ≤ 262144 ⌝ }
+    requires { ⌜ length (now s) ≤ listSpace ⌝ }
 {
     let t = replay(s, kind);
     print_kind(kind);
@@ -600,7 +603,7 @@ fn report_kind(s: &[u8], kind: u32)
 
 // A line for each kind; the comments; and the number of all lines, so that none is passed over unseen.
 fn report(s: &[u8])
-    requires { ⌜ length (now s) ≤ 262144 ⌝ }
+    requires { ⌜ length (now s) ≤ listSpace ⌝ }
 {
     let mut kind: u32 = 0;
     while kind < 15 {
@@ -613,7 +616,7 @@ fn report(s: &[u8])
 }
 
 fn main() {
-    let mut list = [0u8; 262144];
+    let mut list = [0u8; LIST_SPACE];
     let n = io::read_full(STDIN_FILENO, &mut list);
     report(&list[..n]);
 }

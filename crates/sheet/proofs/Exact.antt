@@ -55,7 +55,8 @@ never-read e =
     omega arith
 
 -- a name's mode is one of the sixteen
-named-case : (s : List ℕ) (m k : ℕ) (c : Mode) (b : Bool) → (namedFrom s (m + 1) k ≡ Console c → c .0 < m + 1 + k) → cond b (Console (modeOf m)) (namedFrom s (m + 1) k) ≡ Console c → c .0 < m + suc k
+named-case : (s : List ℕ) (m k : ℕ) (c : Mode) (b : Bool) → (namedFrom s (m + 1) k ≡ Console c → c .0 < m + 1 + k)
+    → cond b (Console (modeOf m)) (namedFrom s (m + 1) k) ≡ Console c → c .0 < m + suc k
 named-case s m k c true ih e =
     let here : m ≡ c .0 = cc in
     omega arith
@@ -163,7 +164,8 @@ none-left (b ∷ bs) e =
     let no : ⊥ = omega arith in
     absurd no
 
-number-case : (b : ℕ) (bs : List ℕ) (v : ℕ) (zero? one? : Bool) → eqb b 48 ≡ zero? → eqb (length (b ∷ bs)) 1 ≡ one? → cond zero? (cond one? (Value 0) Nothing) (digitsFrom (b ∷ bs) 0) ≡ Value v → b ∷ bs ≡ decimal v
+number-case : (b : ℕ) (bs : List ℕ) (v : ℕ) (zero? one? : Bool) → eqb b 48 ≡ zero? → eqb (length (b ∷ bs)) 1 ≡ one?
+    → cond zero? (cond one? (Value 0) Nothing) (digitsFrom (b ∷ bs) 0) ≡ Value v → b ∷ bs ≡ decimal v
 unfolding digitsOf
 number-case b bs v true true z o e =
     let byte : b ≡ 48 = eqb-true b 48 z in
@@ -184,7 +186,8 @@ number-only (b ∷ bs) v e =
 true-T : (t : Bool) → t ≡ true → T t
 true-T t e = subst T (sym e) tt
 
-name-case : (s : List ℕ) (m : ℕ) (c : Mode) (more : Named) (t : Bool) → same s (nameOf m) ≡ t → (more ≡ Console c → s ≡ nameOf (c .0)) → cond t (Console (modeOf m)) more ≡ Console c → s ≡ nameOf (c .0)
+name-case : (s : List ℕ) (m : ℕ) (c : Mode) (more : Named) (t : Bool) → same s (nameOf m) ≡ t → (more ≡ Console c → s ≡ nameOf (c .0))
+    → cond t (Console (modeOf m)) more ≡ Console c → s ≡ nameOf (c .0)
 name-case s m c more true h ih e =
     let here : m ≡ c .0 = cc in
     same-eq s (nameOf m) (true-T (same s (nameOf m)) h) ∙ ap nameOf here
@@ -218,7 +221,8 @@ module _ (l : Line) (v : ℕ) where
   small-case t text true n e = omega (arith, mode-top l t n, mode-case (modeNamed text) v (λ c. named-small text 0 16 c) e)
   small-case t text false n e = most-small (l .1) v (numberIn text) e
 
-  line-case : (bytes : List ℕ) (t : Bool) → same (take (length (keyOf (l .0))) bytes) (keyOf (l .0)) ≡ t → cond t (textSays l (drop (length (keyOf (l .0))) bytes)) Nothing ≡ Value v → (bytes ≡ keyOf (l .0) ++ textFor l v) × (T (isLine l) → v ≤ l .1)
+  line-case : (bytes : List ℕ) (t : Bool) → same (take (length (keyOf (l .0))) bytes) (keyOf (l .0)) ≡ t
+      → cond t (textSays l (drop (length (keyOf (l .0))) bytes)) Nothing ≡ Value v → (bytes ≡ keyOf (l .0) ++ textFor l v) × (T (isLine l) → v ≤ l .1)
   unfolding textSays textFor
   line-case bytes true h e =
       let n = length (keyOf (l .0)) in (
@@ -234,7 +238,8 @@ module _ (l : Line) (v : ℕ) where
   line-only bytes e = line-case bytes (same (take (length (keyOf (l .0))) bytes) (keyOf (l .0))) refl e
 
 -- where a line ends, a newline stands
-newline-case : (b : ℕ) (bs : List ℕ) (t : Bool) → eqb b 10 ≡ t → (lineLength bs < length bs → getD bs (lineLength bs) 0 ≡ 10) → cond t 0 (1 + lineLength bs) < suc (length bs) → getD (b ∷ bs) (cond t 0 (1 + lineLength bs)) 0 ≡ 10
+newline-case : (b : ℕ) (bs : List ℕ) (t : Bool) → eqb b 10 ≡ t → (lineLength bs < length bs → getD bs (lineLength bs) 0 ≡ 10)
+    → cond t 0 (1 + lineLength bs) < suc (length bs) → getD (b ∷ bs) (cond t 0 (1 + lineLength bs)) 0 ≡ 10
 newline-case b bs true h ih l = eqb-true b 10 h
 newline-case b bs false h ih l =
     let next : 1 + lineLength bs ≡ suc (lineLength bs) = omega arith in
@@ -245,7 +250,8 @@ unfolding lineLength
 newline-at [] l = absurd (not-suc-le-zero l)
 newline-at (b ∷ bs) l = newline-case b bs (eqb b 10) refl (newline-at bs) l
 
-whole-line : (l : Line) (v : ℕ) (rest : List ℕ) → lineLength rest < length rest → lineSays l (take (lineLength rest) rest) ≡ Value v → take (lineLength rest + 1) rest ≡ lineOf (l .0) (textFor l v)
+whole-line : (l : Line) (v : ℕ) (rest : List ℕ) → lineLength rest < length rest → lineSays l (take (lineLength rest) rest) ≡ Value v
+    → take (lineLength rest + 1) rest ≡ lineOf (l .0) (textFor l v)
 unfolding lineOf
 whole-line l v rest h e =
     rw (add-one (lineLength rest), take-suc rest (lineLength rest) 0 h, newline-at rest h, line-only l v (take (lineLength rest) rest) e .0)

@@ -44,7 +44,8 @@ unfolding textOf
 text-fits input = sheet-case input (sheetIn input) refl
 
 -- so every run over such a buffer is answered in full
-pub run-answers : (input before : List ℕ) {r : Written} {after : List ℕ} → outSpace ≤ length before → Ran (numberOf input) (textOf input) before r after → r ≡ fully (numberOf input) (length (textOf input))
+pub run-answers : (input before : List ℕ) {r : Written} {after : List ℕ} → outSpace ≤ length before → Ran (numberOf input) (textOf input) before r after
+    → r ≡ fully (numberOf input) (length (textOf input))
 run-answers input before space p =
     let fits : length (textOf input) ≤ length before = omega (arith, text-fits input) in
     p .answer ∙ rw (le-ltb (length before) (length (textOf input)) fits)

@@ -1,7 +1,7 @@
 -- One step of each definition that reads a sheet, at a place of a list.
 -- Assumes nothing.
 use Prim.Native.Nat.{ℕ, _+_, _*_, _-_, _<_, _≤_}
-use mathlib.Core.Path.{_≡_}
+use mathlib.Core.Path.{_≡_, ap, _∙_}
 use mathlib.Core.List.{List, [], _∷_, _++_}
 use mathlib.Core.Bool.{true, false}
 use native.Mathlib.Numerals.{add-one}
@@ -25,7 +25,7 @@ use Rattle.sheet.specs.declared.Told.the-variants.{Value, Nothing}
 use Rattle.sheet.specs.declared.Sheet.the-variants.{Read, Wrong}
 
 -- digits, one byte further; b is the byte at i
-module _ (s : List ℕ) (i n b : ℕ) (h : i < length s) (e : b ≡ getD s i 0) where
+module _ (s : List ℕ) (i n : ℕ) {b : ℕ} (h : i < length s) (e : b ≡ getD s i 0) where
   pub digits-low : b < 48 → digitsFrom (drop i s) n ≡ Nothing
   unfolding digitsFrom
   digits-low l = rw (drop-cons s i 0, ← e) (simp (lt-ltb _ _ l))
@@ -126,26 +126,33 @@ pub key-known : (k : ℕ) → k < length sheetLines → lineAt k .0 < keyCount
 unfolding sheetLines lineAt
 key-known k h = ltb→lt (lineAt k .0) keyCount (all-at (length sheetLines) (λ i. ltb (lineAt i .0) keyCount) tt k h)
 
--- the lines from line k on, by what was found of it: rest is what is left of s, end the line's length
-module _ (s values : List ℕ) (k at end : ℕ) (rest : List ℕ) (r : rest ≡ drop at s) (h : k < length sheetLines) (e : end ≡ lineLength rest) where
+-- the lines from line k on, by what was found of it, end being its length
+abbrev restOf : List ℕ → ℕ → List ℕ
+restOf s at = take (length s - at) (drop at s)
+
+module _ (s values : List ℕ) (k at : ℕ) {end : ℕ} (h : k < length sheetLines) (e : end ≡ lineLength (restOf s at)) where
   here : drop k sheetLines ≡ lineAt k ∷ drop (k + 1) sheetLines
   unfolding lineAt
   here = rw (add-one) (drop-cons sheetLines k (line 0 0) h)
 
-  pub lines-cut : length rest ≤ end → linesFrom (drop k sheetLines) s at (take k values) ≡ NoLines
-  unfolding linesFrom
-  lines-cut l = rw here (simp (← r, ← e, le-ltb _ _ l))
+  long : end ≡ lineLength (drop at s)
+  long = e ∙ ap lineLength (rest-all s at)
 
-  pub lines-wrong : {l : Line} → l ≡ lineAt k → end < length rest → lineSays l (take end rest) ≡ Nothing → linesFrom (drop k sheetLines) s at (take k values) ≡ NoLines
+  pub lines-cut : length (restOf s at) ≤ end → linesFrom (drop k sheetLines) s at (take k values) ≡ NoLines
   unfolding linesFrom
-  lines-wrong q h w = rw (here, ← q) (simp (← r, ← e, lt-ltb _ _ h, w))
+  lines-cut l = rw here (simp (← long, le-ltb _ _ (rw (rest-all s at) at l)))
 
-  pub lines-more : {l : Line} (v : ℕ) → l ≡ lineAt k → k < length values → end < length rest → lineSays l (take end rest) ≡ Value v
-      → linesFrom (drop k sheetLines) s at (take k values) ≡ linesFrom (drop (k + 1) sheetLines) s (at + (end + 1)) (take (k + 1) (set values k v))
-  unfolding linesFrom
-  lines-more v q inside h w =
-      let next : take (k + 1) (set values k v) ≡ take k values ++ v ∷ [] = rw add-one (take-suc-set values k v inside) in
-      rw (here, next, ← q) (simp (← r, ← e, lt-ltb _ _ h, w))
+  module _ {l : Line} (q : l ≡ lineAt k) (whole : end < length (restOf s at)) where
+    pub lines-wrong : lineSays l (take end (restOf s at)) ≡ Nothing → linesFrom (drop k sheetLines) s at (take k values) ≡ NoLines
+    unfolding linesFrom
+    lines-wrong w = rw (here, ← q) (simp (← long, lt-ltb _ _ (rw (rest-all s at) at whole), rw (rest-all s at) at w))
+
+    pub lines-more : (v : ℕ) → k < length values → lineSays l (take end (restOf s at)) ≡ Value v
+        → linesFrom (drop k sheetLines) s at (take k values) ≡ linesFrom (drop (k + 1) sheetLines) s (at + (end + 1)) (take (k + 1) (set values k v))
+    unfolding linesFrom
+    lines-more v fits w =
+        let next : take (k + 1) (set values k v) ≡ take k values ++ v ∷ [] = rw add-one (take-suc-set values k v fits) in
+        rw (here, next, ← q) (simp (← long, lt-ltb _ _ (rw (rest-all s at) at whole), rw (rest-all s at) at w))
 
 pub lines-end : (s values : List ℕ) (k at : ℕ) → length sheetLines ≤ k → length values ≤ k → linesFrom (drop k sheetLines) s at (take k values) ≡ Numbers values at
 unfolding linesFrom

@@ -35,7 +35,8 @@ module _ (bytes before : List ℕ) {after : List ℕ} {n : ℕ} (size : n ≡ le
 pub own-buffers : (z : Settings) (pixels : List ℕ) → convertSays z pixels (length {A = ℕ} (replicate tileSpace 0)) (length {A = ℕ} (replicate mapSpace 0)) ≡ pictureSays z pixels
 own-buffers z pixels = rw (length-replicate {A = ℕ} tileSpace 0, length-replicate {A = ℕ} mapSpace 0)
 
-pub reportable : (z : Settings) (p : Picture) (tiles map : List ℕ) → z .mode < 16 → length tiles ≡ tileSpace → length map ≡ mapSpace → p .«tile_bytes» ≤ length tiles → p .«map_bytes» ≤ length map
+pub reportable : (z : Settings) (p : Picture) (tiles map : List ℕ) → z .mode < 16 → length tiles ≡ tileSpace → length map ≡ mapSpace → p .«tile_bytes» ≤ length tiles
+    → p .«map_bytes» ≤ length map
     → Reportable z p (take (p .«tile_bytes») tiles) (take (p .«map_bytes») map)
 reportable z p tiles map known t m ht hm =
     record {

@@ -62,7 +62,8 @@ some-digit zero n some h =
     absurd no
 some-digit (suc k) n some h = some-case n (digitsOf k (n / 10)) (ltb n 10)
 
-first-case : (n : ℕ) (l : List ℕ) (b : Bool) → ltb n 10 ≡ b → 0 < n → (b ≡ false → (0 < length l) × (48 < getD l 0 0)) → 48 < getD (cond b ((48 + n) ∷ []) (l ++ (48 + n % 10) ∷ [])) 0 0
+first-case : (n : ℕ) (l : List ℕ) (b : Bool) → ltb n 10 ≡ b → 0 < n → (b ≡ false → (0 < length l) × (48 < getD l 0 0))
+    → 48 < getD (cond b ((48 + n) ∷ []) (l ++ (48 + n % 10) ∷ [])) 0 0
 first-case n l true e some ih = omega arith
 first-case n l false e some ih = rw (List·getD-append l ((48 + n % 10) ∷ []) 0 0 (ih refl .0)) (ih refl .1)
 
@@ -91,7 +92,8 @@ number-back (suc n) small =
     ∙ digits-back 10 (suc n) [] fits small
 
 -- a text without newlines: its line is as long as it is
-line-case : (x : ℕ) (xs b : List ℕ) (t : Bool) → cond t 0 (1 + lineLength xs) ≡ suc (length xs) → (lineLength xs ≡ length xs → lineLength (xs ++ b) ≡ length xs + lineLength b) → cond t 0 (1 + lineLength (xs ++ b)) ≡ suc (length xs) + lineLength b
+line-case : (x : ℕ) (xs b : List ℕ) (t : Bool) → cond t 0 (1 + lineLength xs) ≡ suc (length xs)
+    → (lineLength xs ≡ length xs → lineLength (xs ++ b) ≡ length xs + lineLength b) → cond t 0 (1 + lineLength (xs ++ b)) ≡ suc (length xs) + lineLength b
 line-case x xs b true e ih =
     let no : ⊥ = omega arith in
     absurd no
@@ -111,7 +113,8 @@ digit-free d =
     let other : 48 + d ≡ 10 → ⊥ = λ e. omega arith in
     rw (ne-eqb (48 + d) 10 other)
 
-free-case : (n : ℕ) (l : List ℕ) (b : Bool) → lineLength l ≡ length l → lineLength (cond b ((48 + n) ∷ []) (l ++ (48 + n % 10) ∷ [])) ≡ length (cond b ((48 + n) ∷ []) (l ++ (48 + n % 10) ∷ []))
+free-case : (n : ℕ) (l : List ℕ) (b : Bool) → lineLength l ≡ length l
+    → lineLength (cond b ((48 + n) ∷ []) (l ++ (48 + n % 10) ∷ [])) ≡ length (cond b ((48 + n) ∷ []) (l ++ (48 + n % 10) ∷ []))
 free-case n l true e = digit-free n
 free-case n l false e = free-both l ((48 + n % 10) ∷ []) e (digit-free (n % 10))
 
@@ -139,7 +142,8 @@ unfolding nameOf
 name-back = by-mode (λ (m : ℕ). modeTold (modeNamed (nameOf m)) ≡ Value m) refl refl refl refl refl refl refl refl refl refl refl refl refl refl refl refl
 
 module _ (l : Line) (t : T (isLine l)) (v : ℕ) (h : v ≤ l .1) where
-  back-case : (named : Bool) → eqb (l .0) mode ≡ named → cond named (modeTold (modeNamed (cond named (nameOf v) (decimal v)))) (atMost (l .1) (numberIn (cond named (nameOf v) (decimal v)))) ≡ Value v
+  back-case : (named : Bool) → eqb (l .0) mode ≡ named
+      → cond named (modeTold (modeNamed (cond named (nameOf v) (decimal v)))) (atMost (l .1) (numberIn (cond named (nameOf v) (decimal v)))) ≡ Value v
   back-case true e = name-back v (omega (arith, mode-top l t e))
   back-case false e = rw (number-back v (omega (arith, number-top l t e)), le-leb v (l .1) h)
 
@@ -178,7 +182,8 @@ module _ (l : Line) (t : T (isLine l)) (v : ℕ) (h : v ≤ l .1) (s rest : List
       sym (drop-drop (length bytes) at s) ∙ ap (drop (length bytes)) e ∙ drop-append-seam bytes rest
 
 -- lines are read as the numbers that they were written from
-pub lines-back : (ls : List Line) → T (areLines ls) → (us : List ℕ) → Within ls us → (s vs rest : List ℕ) (at : ℕ) → drop at s ≡ linesText ls us ++ rest → linesFrom ls s at vs ≡ Numbers (vs ++ us) (at + length (linesText ls us))
+pub lines-back : (ls : List Line) → T (areLines ls) → (us : List ℕ) → Within ls us → (s vs rest : List ℕ) (at : ℕ) → drop at s ≡ linesText ls us ++ rest
+    → linesFrom ls s at vs ≡ Numbers (vs ++ us) (at + length (linesText ls us))
 unfolding linesFrom linesText
 lines-back [] t [] w s vs rest at e = rw (append-nil, add-zero)
 lines-back [] t (u ∷ us) w s vs rest at e = absurd w
@@ -200,7 +205,8 @@ values-told : (z : Settings) → settingsOf (valuesOf z) ≡ z
 unfolding settingsOf
 values-told z = rw (bit-back (z .flip), bit-back (z .discard))
 
-pub sheet-back : (z : Settings) → Within sheetLines (valuesOf z) → (pixels : List ℕ) → length pixels ≡ 64 * (z .columns * z .rows) → sheetIn (sheetText z ++ pixels) ≡ Read z (length (sheetText z))
+pub sheet-back : (z : Settings) → Within sheetLines (valuesOf z) → (pixels : List ℕ) → length pixels ≡ 64 * (z .columns * z .rows)
+    → sheetIn (sheetText z ++ pixels) ≡ Read z (length (sheetText z))
 unfolding sheetIn linesIn sheetText
 sheet-back z w pixels size =
     let read = lines-back sheetLines eight-lines (valuesOf z) w (sheetText z ++ pixels) [] pixels 0 refl in

@@ -88,7 +88,8 @@ some-left left zero some small =
     absurd no
 some-left left (suc k) some small = omega arith
 
-pub last-held : (n from left : ℕ) (bytes : List ℕ) → 0 < from → from ≤ textMost → left ≤ 9 → left < 10 ^ from → length bytes ≡ textMost → decimal n ≡ digitsOf from left ++ drop from bytes
+pub last-held : (n from left : ℕ) (bytes : List ℕ) → 0 < from → from ≤ textMost → left ≤ 9 → left < 10 ^ from → length bytes ≡ textMost
+    → decimal n ≡ digitsOf from left ++ drop from bytes
     → Holds (record { bytes = set bytes (from - 1) (48 + left); from = from - 1; to = textMost }) (decimal n)
 last-held n from left bytes some most few small size e =
     let left-over : textMost - (from - 1) ≡ length (drop (from - 1) (set bytes (from - 1) (48 + left))) = simp (length-drop, length-set) (omega arith) in

@@ -30,16 +30,14 @@ cast-b c = search needs
 returns : tie.Need-returns Inv-loop μ-loop
 returns c =
     let l = c .before .before .before .before in
-    sym
-    (l .loop .inv .2
-    ∙ digits-low (l .before .before .args .s .now) (l .loop .i) (l .loop .n) (c .before .wide .result) (omega arith) (c .before .wide .ensures .0) (omega arith))
+    let s = l .before .before .args .s .now in
+    sym (l .loop .inv .2 ∙ digits-low s (l .loop .i) (l .loop .n) (omega arith) (c .before .wide .ensures .0) (omega arith))
 
 returns-2 : tie.Need-returns-2 Inv-loop μ-loop
 returns-2 c =
     let l = c .before .before .before .before .before in
-    sym
-    (l .loop .inv .2
-    ∙ digits-high (l .before .before .args .s .now) (l .loop .i) (l .loop .n) (c .before .before .wide .result) (omega arith) (c .before .before .wide .ensures .0) (omega arith) (omega arith))
+    let s = l .before .before .args .s .now in
+    sym (l .loop .inv .2 ∙ digits-high s (l .loop .i) (l .loop .n) (omega arith) (c .before .before .wide .ensures .0) (omega arith) (omega arith))
 
 mul-next : tie.Need-mul-next Inv-loop μ-loop
 mul-next c = search needs
@@ -49,10 +47,10 @@ add-next c = search needs
 
 returns-3 : tie.Need-returns-3 Inv-loop μ-loop
 returns-3 c =
-    let l = c .before .before .before .before .before .before in
-    sym
-    (l .loop .inv .2
-    ∙ digits-over (l .before .before .args .s .now) (l .loop .i) (l .loop .n) (c .before .before .before .wide .result) (omega arith) (c .before .before .before .wide .ensures .0) (omega arith) (omega arith) (omega arith))
+    let w = c .before .before .before in
+    let l = w .before .before .before in
+    let s = l .before .before .args .s .now in
+    sym (l .loop .inv .2 ∙ digits-over s (l .loop .i) (l .loop .n) (omega arith) (w .wide .ensures .0) (omega arith) (omega arith) (omega arith))
 
 add-i : tie.Need-add-i Inv-loop μ-loop
 add-i c = search needs
@@ -62,11 +60,12 @@ loop-less c = search needs
 
 loop-again : tie.Need-loop-again Inv-loop μ-loop
 loop-again c =
-    let l = c .before .before .before .before .before .before in (
+    let w = c .before .before .before in
+    let l = w .before .before .before in
+    let s = l .before .before .args .s .now in (
       omega arith,
       omega arith,
-      l .loop .inv .2
-          ∙ digits-more (l .before .before .args .s .now) (l .loop .i) (l .loop .n) (c .before .before .before .wide .result) (omega arith) (c .before .before .before .wide .ensures .0) (omega arith) (omega arith) (omega arith),
+      l .loop .inv .2 ∙ digits-more s (l .loop .i) (l .loop .n) (omega arith) (w .wide .ensures .0) (omega arith) (omega arith) (omega arith),
     )
 
 cast-t13 : tie.Need-cast-t13 Inv-loop μ-loop

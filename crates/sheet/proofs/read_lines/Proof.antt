@@ -6,11 +6,11 @@ use mathlib.Core.List.{[]}
 use native.Mathlib.Omega.{arith}
 use lib.ListN.{length, take, drop, length-take, length-drop, length-set}
 use Rattle.picture.specs.declared.Settings.{Settings}
-use Rattle.sheet.specs.Sheet.{sheetLines, sheetOf, lineSays, linesFrom, linesIn}
+use Rattle.sheet.specs.Sheet.{sheetLines, sheetOf, linesFrom, linesIn}
 use Rattle.sheet.specs.Inner.{keyCount}
 use Rattle.sheet.specs.declared.Line.{Line}
 use Rattle.sheet.specs.declared.Sheet.the-variants.{Read}
-use Rattle.sheet.proofs.Reading.{rest-all, inside, outside, key-known, lines-cut, lines-wrong, lines-more, lines-end}
+use Rattle.sheet.proofs.Reading.{inside, outside, key-known, lines-cut, lines-wrong, lines-more, lines-end}
 use Rattle.sheet.proofs.read_lines.Statement.{statement}
 use Rattle.sheet.proofs.read_lines.Tie as tie
 
@@ -43,10 +43,8 @@ returns c =
     let b = c .before .before .before in
     let l = b .before .loop in
     let s = b .before .before .before .args .s .now in
-    sym
-    (ap sheetOf
-    (l .inv .3
-    ∙ lines-cut s (l .values) (l .k) (l .at) (c .before .line-length .result) _ (rest-all s (l .at)) (inside (l .k) (b .loop-test .taken)) (c .before .line-length .ensures .0) (c .if1 .taken)))
+    let here = inside (l .k) (b .loop-test .taken) in
+    sym (ap sheetOf (l .inv .3 ∙ lines-cut s (l .values) (l .k) (l .at) here (c .before .line-length .ensures .0) (c .if1 .taken)))
 
 line-at-requires : tie.Need-line-at-requires Inv-loop μ-loop
 line-at-requires c κs = inside _ (c .before .before .before .loop-test .taken)
@@ -72,10 +70,10 @@ returns-2 c =
     let b = e .before .before .before in
     let l = b .before .loop in
     let s = b .before .before .before .args .s .now in
-    sym
-    (ap sheetOf
-    (l .inv .3
-    ∙ lines-wrong s (l .values) (l .k) (l .at) (e .before .line-length .result) _ (rest-all s (l .at)) (inside (l .k) (b .loop-test .taken)) (e .before .line-length .ensures .0) (c .before .before .before .before .line-at .ensures) (e .if1 .left) (sym (c .before .before .line-says .ensures) ∙ c .enum-told .given .1)))
+    let here = inside (l .k) (b .loop-test .taken) in
+    let line = c .before .before .before .before .line-at .ensures in
+    let told = sym (c .before .before .line-says .ensures) ∙ c .enum-told .given .1 in
+    sym (ap sheetOf (l .inv .3 ∙ lines-wrong s (l .values) (l .k) (l .at) here (e .before .line-length .ensures .0) line (e .if1 .left) told))
 
 mul-values : tie.Need-mul-values Inv-loop μ-loop
 mul-values c = search needs
@@ -103,12 +101,13 @@ loop-again c =
     let l = b .before .loop in
     let s = b .before .before .before .args .s .now in
     let here = inside (l .k) (b .loop-test .taken) in
-    let v = c .before .v .given in (
+    let line = c .before .before .before .before .before .line-at .ensures in
+    let v = c .before .v .given in
+    let told = sym (c .before .before .before .line-says .ensures) ∙ v .1 in (
       omega arith,
       omega (arith, simp (length-take, length-drop) at (e .if1 .left)),
       simp length-set (omega arith),
-      l .inv .3
-          ∙ lines-more s (l .values) (l .k) (l .at) (e .before .line-length .result) _ (rest-all s (l .at)) here (e .before .line-length .ensures .0) (v .0 .0) (c .before .before .before .before .before .line-at .ensures) (omega arith) (e .if1 .left) (sym (c .before .before .before .line-says .ensures) ∙ v .1),
+      l .inv .3 ∙ lines-more s (l .values) (l .k) (l .at) here (e .before .line-length .ensures .0) line (e .if1 .left) (v .0 .0) (omega arith) told,
     )
 
 settings-requires : tie.Need-settings-requires Inv-loop μ-loop
