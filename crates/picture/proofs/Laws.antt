@@ -7,16 +7,19 @@ use Prim.Native.Nat.{ℕ, suc, _+_, _*_, _<_, _≤_}
 use native.Mathlib.Omega.{arith}
 use lib.ListN.{length, take, drop}
 use lib.Seq.{take-at}
-use Rattle.words.specs.Answers.{firstApplying, unless, overwrite}
-use Rattle.words.proofs.Answers.{when-done}
-use Rattle.tileset.specs.Finding.{lookUp, isFound, cutTo}
+use Rattle.words.specs.Answers.{firstApplying, unless, overwrite, Wrote}
+use Rattle.words.specs.declared.Written.{Written}
+use Rattle.words.proofs.Answers.{when-done, when-refused}
+use Rattle.tile.specs.Tile.{unpacked}
+use Rattle.tileset.specs.Finding.{lookUp, isFound, cutTo, tilesIn}
 use Rattle.tileset.specs.Sets.{roomIn, newSet}
+use Rattle.tileset.specs.Writing.{setBytes}
 use Rattle.tileset.specs.Matched.{Apart}
 use Rattle.tileset.specs.Keeping.{kept, discarded}
 use Rattle.tileset.specs.History.{setAtEnd, storeAtEnd, accepted as adds, setTiles}
 use Rattle.tileset.specs.declared.Set.{Set}
 use Rattle.picture.specs.Cells.{cutTile, cutTiles}
-use Rattle.picture.specs.Converting.{places, pictureTiles, storedOf, needOf, discardedOf, tileBytes, foundAt, mapBytes, pictureRoom, sizeSays, convertChecks, convertSays, Converts}
+use Rattle.picture.specs.Converting.{places, pictureTiles, storedOf, needOf, discardedOf, tileBytes, foundAt, mapBytes, pictureRoom, sizeSays, askedChecks, convertSays, Converts}
 use Rattle.picture.specs.Redrawing.{drawn, redrawSays}
 use Rattle.picture.specs.Inner.{askedSays}
 use Rattle.picture.specs.declared.Settings.{Settings}
@@ -25,8 +28,8 @@ use Rattle.picture.proofs.Checks.{convert-12, convert-0, convert-passed
 use Rattle.tileset.proofs.Keeping.{kept-apart, none-discarded as off-none}
 use Rattle.picture.proofs.Converted.{found-taken, is-found, stored-need, stored-discarded}
 use Rattle.picture.proofs.Room.{convert-full}
-use Rattle.picture.proofs.ByAdding.{tiles-accepted, tiles-stored, tiles-count, tiles-sum, tiles-cut}
-use Rattle.picture.proofs.Redrawn.{tiles-fit, map-fits, redraw-accepted, drawn-back}
+use Rattle.picture.proofs.ByAdding.{tiles-accepted, tiles-stored, tiles-count, tiles-sum, tiles-cut, tiles-bytes}
+use Rattle.picture.proofs.Redrawn.{tiles-fit, map-fits, tiles-back, redraw-accepted, drawn-back}
 
 -- ---- an accepted picture is drawn again: what the conversion wrote is accepted by redrawing, and gives the picture, cut to the depth
 
@@ -93,9 +96,9 @@ module _ (z : Settings) (pixels : List ℕ) where
 -- ---- "no room for the tiles": 12 and 0 are given exactly when no earlier check applies and need is above room, or is not
 
 module _ (z : Settings) (pixels : List ℕ) (tileRoom mapRoom : ℕ) where
-  -- what the five checks before the room's answer
+  -- what the checks before the room's answer
   abbrev pub earlier : ℕ
-  earlier = firstApplying (take 5 (convertChecks z pixels tileRoom mapRoom))
+  earlier = firstApplying (askedChecks z (length pixels) mapRoom)
 
   pub refused-for-room : (convertSays z pixels tileRoom mapRoom ≡ 12 → (earlier ≡ 0) × (pictureRoom z tileRoom < needOf z pixels))
       × (earlier ≡ 0 → pictureRoom z tileRoom < needOf z pixels → convertSays z pixels tileRoom mapRoom ≡ 12)
@@ -117,6 +120,10 @@ front : (n : ℕ) (bytes before after : List ℕ) (k : ℕ) → n ≡ 0 → k �
 front n bytes before after k z e q =
     ap (λ (l : List ℕ). take k l) (q ∙ when-done n (overwrite before bytes) before z)
     ∙ take-at bytes (drop (length bytes) before) k (sym (e ∙ when-done n (length bytes) 0 z))
+
+-- so many tiles, unpacked from their bytes
+abbrev pub unpackedTiles : Settings → List ℕ → ℕ → List (List ℕ)
+unpackedTiles z bytes count = map (unpacked (z .mode) (z .depth) 8 8) (tilesIn (z .depth * 8) bytes count)
 
 module _ (z : Settings) (pixels tiles map : List ℕ) (r : Picture) (tilesAfter mapAfter : List ℕ) (done : Done z pixels tiles map r tilesAfter mapAfter) where
   says-0 : convertSays z pixels (length tiles) (length map) ≡ 0
@@ -145,6 +152,16 @@ module _ (z : Settings) (pixels tiles map : List ℕ) (r : Picture) (tilesAfter 
       ap (λ (x : Picture). x .tiles + x .discarded) (done .0 .answer)
       ∙ ap (λ (k : ℕ). unless k (length (storedOf z pixels)) 0 + unless k (discardedOf z pixels) 0) says-0
       ∙ all-counted z pixels
+
+  -- "no two of its stored tiles match": with discarding on, the tiles that a caller unpacks from the written bytes
+  pub written-apart : z .discard ≡ true → Apart (z .flip) 8 8 (unpackedTiles z (take (r .«tile_bytes») tilesAfter) (r .tiles))
+  written-apart on =
+      let count : r .tiles ≡ length (storedOf z pixels) = ap (λ (x : Picture). x .tiles) (done .0 .answer) ∙ ap (λ (k : ℕ). unless k (length (storedOf z pixels)) 0) says-0 in
+      subst (Apart (z .flip) 8 8)
+      (sym (ap (unpackedTiles z (take (r .«tile_bytes») tilesAfter)) count
+      ∙ ap (λ (l : List ℕ). unpackedTiles z l (length (storedOf z pixels))) written-tiles
+      ∙ tiles-back z pixels (length tiles) (length map) says-0))
+      (no-two-match z pixels on)
 
 -- two conversions that left the same written bytes were of the same picture, cut to the depth
 pub alike-written : (z : Settings) (pixels tiles map : List ℕ) (r : Picture) (tilesAfter mapAfter : List ℕ) → Done z pixels tiles map r tilesAfter mapAfter
@@ -177,7 +194,67 @@ module _ (z : Settings) (pixels : List ℕ) (limit : ℕ) (store : List ℕ) (ps
     pub adds-discard : setAtEnd emptySet store ps .discarded ≡ discardedOf z pixels
     adds-discard = omega (arith, tiles-sum z pixels size limit store ps cut room, tiles-count z pixels size limit store ps cut room, all-counted z pixels)
 
+    -- and writing the set gives the picture's tile bytes
+    pub adds-write : tileBytes z pixels ≡ setBytes (setAtEnd emptySet store ps) (storeAtEnd emptySet store ps)
+    adds-write = tiles-bytes z pixels size limit store ps cut room
+
 -- the picture's tiles are such tiles
 pub tiles-cut-again : (z : Settings) (pixels : List ℕ) → map (cutTo (z .depth)) (pictureTiles z pixels) ≡ pictureTiles z pixels
 unfolding pictureTiles
 tiles-cut-again z pixels = tiles-cut (z .depth) 8 8 (z .columns) pixels (places z)
+
+-- ---- over the answer of a call, refused or not
+
+module _ (z : Settings) (pixels tiles map : List ℕ) (r : Picture) (tilesAfter mapAfter : List ℕ)
+    (p : Converts (convertSays z pixels (length tiles) (length map)) z pixels tiles map r tilesAfter mapAfter) where
+  abbrev due : ℕ
+  due = convertSays z pixels (length tiles) (length map)
+
+  abbrev before : ℕ
+  before = earlier z pixels (length tiles) (length map)
+
+  answered : r .refusal ≡ due
+  answered = ap (λ (x : Picture). x .refusal) (p .answer)
+
+  -- 12 is answered exactly when no check before the last refuses and the need is above the room
+  pub answers-12 : (r .refusal ≡ 12 → (before ≡ 0) × (pictureRoom z (length tiles) < needOf z pixels))
+      × (before ≡ 0 → pictureRoom z (length tiles) < needOf z pixels → r .refusal ≡ 12)
+  answers-12 =
+      let room = refused-for-room z pixels (length tiles) (length map) in
+      (λ e. room .0 (sym answered ∙ e), λ passed above. answered ∙ room .1 passed above)
+
+  -- a refused call leaves both buffers as they were
+  pub refused-kept : (r .refusal ≡ 0 → ⊥) → (tilesAfter ≡ tiles) × (mapAfter ≡ map)
+  refused-kept refused =
+      let no : due ≡ 0 → ⊥ = λ e. refused (answered ∙ e) in
+      (p .lent ∙ when-refused due (overwrite tiles (tileBytes z pixels)) tiles no, p .alsoLent ∙ when-refused due (overwrite map (mapBytes z pixels)) map no)
+
+-- a refused redrawing leaves the pixels as they were
+pub redraw-refused-kept : (m d columns rows : ℕ) (tiles map out : List ℕ) (w : Written) (after : List ℕ)
+    → Wrote (redrawSays m d columns rows tiles map (length out)) (drawn m d columns rows tiles map) out w after → (w .refusal ≡ 0 → ⊥) → after ≡ out
+redraw-refused-kept m d columns rows tiles map out w after q refused =
+    let due = redrawSays m d columns rows tiles map (length out) in
+    q .lent ∙ when-refused due (overwrite out (drawn m d columns rows tiles map)) out (λ e. refused (ap (λ (x : Written). x .refusal) (q .answer) ∙ e))
+
+-- a call of redraw on what a conversion wrote, with space for the pixels: it is done, and gives the picture, cut to the depth
+module _ (z : Settings) (pixels tiles map : List ℕ) (r : Picture) (tilesAfter mapAfter : List ℕ) (done : Done z pixels tiles map r tilesAfter mapAfter)
+    (out : List ℕ) (w : Written) (after : List ℕ) (space : 64 * places z ≤ length out) where
+  abbrev tilesWritten : List ℕ
+  tilesWritten = take (r .«tile_bytes») tilesAfter
+
+  abbrev mapWritten : List ℕ
+  mapWritten = take (r .«map_bytes») mapAfter
+
+  abbrev redrawDue : ℕ
+  redrawDue = redrawSays (z .mode) (z .depth) (z .columns) (z .rows) tilesWritten mapWritten (length out)
+
+  abbrev redrawn : List ℕ
+  redrawn = drawn (z .mode) (z .depth) (z .columns) (z .rows) tilesWritten mapWritten
+
+  pub redraw-gives : Wrote redrawDue redrawn out w after → (w .refusal ≡ 0) × (take (w .written) after ≡ cutTo (z .depth) pixels)
+  redraw-gives q =
+      let back = redrawn-written z pixels tiles map r tilesAfter mapAfter done (length out) space in
+      (
+        ap (λ (x : Written). x .refusal) (q .answer) ∙ back .0,
+        front redrawDue redrawn out after (w .written) (back .0) (ap (λ (x : Written). x .written) (q .answer)) (q .lent) ∙ back .1,
+      )

@@ -2,11 +2,11 @@
 -- Assumes nothing.
 use mathlib.Core.Path.{_≡_, refl, sym, ap, _∙_}
 use mathlib.Core.Bool.{Bool, true, false}
-use mathlib.Core.List.{List, []}
+use mathlib.Core.List.{List, [], _∷_, map}
 use Prim.Native.Nat.{ℕ, zero, suc, _*_, _/_, _%_, _^_, _<_, _≤_}
-use native.Mathlib.Nat.{le-trans, mul-mod-left, mul-div-cancel}
+use native.Mathlib.Nat.{le-trans, mul-mod-left, mul-div-cancel, suc-ne-zero, suc-inj}
 use native.Mathlib.Omega.{arith}
-use lib.ListN.{length, getD, take, drop}
+use lib.ListN.{length, getD, take, drop, length-map}
 use lib.Seq.{ext-getD}
 use borrow.Author.Tests.{lt-leb}
 use Rattle.words.specs.Loops.{some}
@@ -20,10 +20,11 @@ use Rattle.tile.proofs.Laws.{pixels-back}
 use Rattle.flip.specs.Flips.{flipped}
 use Rattle.flip.specs.declared.Flip.{Flip}
 use Rattle.flip.proofs.Equivalence.{not-both}
-use Rattle.tileset.specs.Finding.{lookUp, isFound, cutTo}
+use Rattle.tileset.specs.Finding.{lookUp, isFound, cutTo, tilesIn}
 use Rattle.tileset.specs.declared.Found.{Found}
 use Rattle.tileset.specs.declared.Found.the-variants.{At, Nothing}
 use Rattle.tileset.proofs.Stores.{length-cut, cut-at}
+use Rattle.index.proofs.Chains.{tiles-at, tiles-long}
 use Rattle.picture.specs.Cells.{tileOver, placeOver, cutTile}
 use Rattle.picture.specs.Entries.{entryAs, entryFor}
 use Rattle.picture.specs.Converting.{places, pictureTiles, storedOf, tileBytes, foundAt, mapBytes, pictureRoom, convertSays}
@@ -42,6 +43,13 @@ use Rattle.picture.proofs.Drawing.{picture-length}
 none-of : (n : ℕ) (f : ℕ → Bool) → ((i : ℕ) → i < n → f i ≡ false) → some n f ≡ false
 none-of zero f h = refl
 none-of (suc n) f h = rw (none-of n f (λ i lt. h i (omega arith)), h n (omega arith))
+
+-- a list is another one's items, each taken by f
+ext-in : (f : List ℕ → List ℕ) (xs ys : List (List ℕ)) → length (map f xs) ≡ length ys → ((k : ℕ) → k < length ys → f (getD xs k []) ≡ getD ys k []) → map f xs ≡ ys
+ext-in f [] [] e h = refl
+ext-in f [] (y ∷ ys) e h = absurd (suc-ne-zero (length ys) (sym e))
+ext-in f (x ∷ xs) [] e h = absurd (suc-ne-zero (length (map f xs)) e)
+ext-in f (x ∷ xs) (y ∷ ys) e h = rw (h 0 (omega arith), ext-in f xs ys (suc-inj e) (λ k lt. h (suc k) (omega arith)))
 
 module _ (z : Settings) (pixels : List ℕ) where
   abbrev stored : List (List ℕ)
@@ -105,6 +113,14 @@ module _ (z : Settings) (pixels : List ℕ) where
         ap (unpacked (z .mode) (z .depth) 8 8)
         (item-at (z .depth * 8) (λ k. packed (z .mode) (z .depth) 8 8 (getD stored k [])) (λ k. packed-size (native-tile (size .mode) (size .map) (size .depth)) (getD stored k [])) (length stored) k lt)
         ∙ pixels-back (z .mode) (z .depth) 8 8 (tile-8 (z .mode) (z .depth) (size .mode) (size .map) (size .depth)) (getD stored k []) (stored-size k lt) (λ i l. stored-small k lt i)
+
+    -- so the tiles unpacked from all bytes are those stored
+    pub tiles-back : map (unpacked (z .mode) (z .depth) 8 8) (tilesIn (z .depth * 8) (tileBytes z pixels) (length stored)) ≡ stored
+    tiles-back =
+        let parts = tilesIn (z .depth * 8) (tileBytes z pixels) (length stored) in
+        let count : length (map (unpacked (z .mode) (z .depth) 8 8) parts) ≡ length stored = length-map parts (unpacked (z .mode) (z .depth) 8 8) ∙ tiles-long (z .depth * 8) (tileBytes z pixels) (length stored) in
+        ext-in (unpacked (z .mode) (z .depth) 8 8) parts stored count
+        (λ k lt. ap (unpacked (z .mode) (z .depth) 8 8) (tiles-at (z .depth * 8) (tileBytes z pixels) (length stored) k lt) ∙ tile-back k lt)
 
     -- the entry that is read back
     entry-is : (i : ℕ) → i < places z → (n : Named i) → entryAt (z .mode) (mapBytes z pixels) i ≡ entryAs (n .place) (z .palette) (n .under .h) (n .under .v)
