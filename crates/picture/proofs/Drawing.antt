@@ -82,7 +82,7 @@ row-whole l from small =
 
 module _ {m d : ℕ} {p : Packing} (q : p ≡ packingOf m d 8 8) (n : Native m d 8 8) where
   pub unpacks-at : (bytes out : List ℕ) (from : ℕ) → from + d * 8 ≤ length bytes → length out ≡ 64 → Unpacks p bytes from out 0
-  unpacks-at bytes out from inside room =
+  unpacks-at bytes out from inside space =
       subst (λ (k : Packing). Unpacks k bytes from out 0) (sym q)
       (record { sound = fitting n .sound; inside = omega (arith, fitting n .bytes); space = omega (arith, fitting n .pixels) })
 
@@ -181,7 +181,7 @@ module _ (m d columns : ℕ) (tiles map : List ℕ) where
 
   -- ---- a row of tiles
 
-  module _ (buffer strip : List ℕ) (y : ℕ) (room : columns * 64 ≤ length buffer) (is : strip ≡ sets buffer 0 (stripOf m d columns (y * columns) tiles map)) where
+  module _ (buffer strip : List ℕ) (y : ℕ) (space : columns * 64 ≤ length buffer) (is : strip ≡ sets buffer 0 (stripOf m d columns (y * columns) tiles map)) where
     long : length (stripOf m d columns (y * columns) tiles map) ≡ columns * 64
     long = length-each columns 64 (λ x. drawnTile m d tiles (entryAt m map (y * columns + x))) (λ x. drawn-length m d tiles (entryAt m map (y * columns + x)))
 
@@ -221,7 +221,7 @@ module _ (m d columns : ℕ) (tiles map : List ℕ) where
 
 pub strip-asks : {m d columns rows : ℕ} {tiles map out strip : List ℕ} (z : Draws m d columns rows tiles map out) (y : ℕ) → y < rows → columns * 64 ≤ length strip → columns * rows ≤ 4096
     → DrawsStrip m d columns (y * columns) tiles map strip
-strip-asks {m} {d} {columns} {rows} z y lt room few =
+strip-asks {m} {d} {columns} {rows} z y lt space few =
     let inside : y * columns + columns ≤ columns * rows = omega (arith, item-inside columns rows y lt, mul-comm columns rows) in
     record {
       mode = z .mode;
@@ -230,8 +230,8 @@ strip-asks {m} {d} {columns} {rows} z y lt room few =
       few = omega arith;
       inside = omega (arith, mul-le-mul-right (row m .entry) inside, z .whole);
       named = λ x hx. z .named (y * columns + x) (omega arith);
-      room = room;
+      space = space;
     }
 
-pub row-room : (columns rows y : ℕ) → y < rows → y * (8 * (columns * 8)) + 8 * (columns * 8) ≤ 64 * (columns * rows)
-row-room columns rows y lt = omega (arith, item-inside (8 * (columns * 8)) rows y lt, mul-comm columns rows)
+pub row-space : (columns rows y : ℕ) → y < rows → y * (8 * (columns * 8)) + 8 * (columns * 8) ≤ 64 * (columns * rows)
+row-space columns rows y lt = omega (arith, item-inside (8 * (columns * 8)) rows y lt, mul-comm columns rows)

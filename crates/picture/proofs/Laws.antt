@@ -33,26 +33,26 @@ use Rattle.picture.proofs.Redrawn.{tiles-fit, map-fits, tiles-back, red
 
 -- ---- an accepted picture is drawn again: what the conversion wrote is accepted by redrawing, and gives the picture, cut to the depth
 
-pub redrawn-back : (z : Settings) (pixels : List ℕ) (tileRoom mapRoom room : ℕ) → convertSays z pixels tileRoom mapRoom ≡ 0 → 64 * places z ≤ room
-    → (redrawSays (z .mode) (z .depth) (z .columns) (z .rows) (tileBytes z pixels) (mapBytes z pixels) room ≡ 0)
+pub redrawn-back : (z : Settings) (pixels : List ℕ) (tileSpace mapSpace space : ℕ) → convertSays z pixels tileSpace mapSpace ≡ 0 → 64 * places z ≤ space
+    → (redrawSays (z .mode) (z .depth) (z .columns) (z .rows) (tileBytes z pixels) (mapBytes z pixels) space ≡ 0)
     × (drawn (z .mode) (z .depth) (z .columns) (z .rows) (tileBytes z pixels) (mapBytes z pixels) ≡ cutTo (z .depth) pixels)
-redrawn-back z pixels tileRoom mapRoom room done enough =
-    (redraw-accepted z pixels tileRoom mapRoom done room enough, drawn-back z pixels tileRoom mapRoom done)
+redrawn-back z pixels tileSpace mapSpace space done enough =
+    (redraw-accepted z pixels tileSpace mapSpace done space enough, drawn-back z pixels tileSpace mapSpace done)
 
 -- so two pictures of which the same bytes are written are the same, cut to the depth
-pub alike-pictures : (z : Settings) (pixels others : List ℕ) (tileRoom mapRoom tileOther mapOther : ℕ)
-    → convertSays z pixels tileRoom mapRoom ≡ 0 → convertSays z others tileOther mapOther ≡ 0
+pub alike-pictures : (z : Settings) (pixels others : List ℕ) (tileSpace mapSpace tileOther mapOther : ℕ)
+    → convertSays z pixels tileSpace mapSpace ≡ 0 → convertSays z others tileOther mapOther ≡ 0
     → tileBytes z pixels ≡ tileBytes z others → mapBytes z pixels ≡ mapBytes z others → cutTo (z .depth) pixels ≡ cutTo (z .depth) others
-alike-pictures z pixels others tileRoom mapRoom tileOther mapOther done also tiles map =
-    sym (drawn-back z pixels tileRoom mapRoom done)
+alike-pictures z pixels others tileSpace mapSpace tileOther mapOther done also tiles map =
+    sym (drawn-back z pixels tileSpace mapSpace done)
     ∙ ap (λ (l : List ℕ). drawn (z .mode) (z .depth) (z .columns) (z .rows) l (mapBytes z pixels)) tiles
     ∙ ap (drawn (z .mode) (z .depth) (z .columns) (z .rows) (tileBytes z others)) map
     ∙ drawn-back z others tileOther mapOther also
 
 -- both buffers of an accepted picture hold what is written
-pub bytes-fit : (z : Settings) (pixels : List ℕ) (tileRoom mapRoom : ℕ) → convertSays z pixels tileRoom mapRoom ≡ 0
-    → (length (tileBytes z pixels) ≤ tileRoom) × (length (mapBytes z pixels) ≤ mapRoom)
-bytes-fit z pixels tileRoom mapRoom done = (tiles-fit z pixels tileRoom mapRoom done, map-fits z pixels tileRoom mapRoom done)
+pub bytes-fit : (z : Settings) (pixels : List ℕ) (tileSpace mapSpace : ℕ) → convertSays z pixels tileSpace mapSpace ≡ 0
+    → (length (tileBytes z pixels) ≤ tileSpace) × (length (mapBytes z pixels) ≤ mapSpace)
+bytes-fit z pixels tileSpace mapSpace done = (tiles-fit z pixels tileSpace mapSpace done, map-fits z pixels tileSpace mapSpace done)
 
 -- ---- what a picture stores, names and discards
 
@@ -95,20 +95,20 @@ module _ (z : Settings) (pixels : List ℕ) where
 
 -- ---- "no room for the tiles": 12 and 0 are given exactly when no earlier check applies and need is above room, or is not
 
-module _ (z : Settings) (pixels : List ℕ) (tileRoom mapRoom : ℕ) where
+module _ (z : Settings) (pixels : List ℕ) (tileSpace mapSpace : ℕ) where
   -- what the checks before the room's answer
   abbrev pub earlier : ℕ
-  earlier = firstApplying (askedChecks z (length pixels) mapRoom)
+  earlier = firstApplying (askedChecks z (length pixels) mapSpace)
 
-  pub refused-for-room : (convertSays z pixels tileRoom mapRoom ≡ 12 → (earlier ≡ 0) × (pictureRoom z tileRoom < needOf z pixels))
-      × (earlier ≡ 0 → pictureRoom z tileRoom < needOf z pixels → convertSays z pixels tileRoom mapRoom ≡ 12)
+  pub refused-for-room : (convertSays z pixels tileSpace mapSpace ≡ 12 → (earlier ≡ 0) × (pictureRoom z tileSpace < needOf z pixels))
+      × (earlier ≡ 0 → pictureRoom z tileSpace < needOf z pixels → convertSays z pixels tileSpace mapSpace ≡ 12)
   unfolding askedSays
-  refused-for-room = (convert-full z pixels tileRoom mapRoom, λ a lt. sym (convert-12 z pixels tileRoom mapRoom a lt))
+  refused-for-room = (convert-full z pixels tileSpace mapSpace, λ a lt. sym (convert-12 z pixels tileSpace mapSpace a lt))
 
-  pub done-with-room : (convertSays z pixels tileRoom mapRoom ≡ 0 → (earlier ≡ 0) × (needOf z pixels ≤ pictureRoom z tileRoom))
-      × (earlier ≡ 0 → needOf z pixels ≤ pictureRoom z tileRoom → convertSays z pixels tileRoom mapRoom ≡ 0)
+  pub done-with-room : (convertSays z pixels tileSpace mapSpace ≡ 0 → (earlier ≡ 0) × (needOf z pixels ≤ pictureRoom z tileSpace))
+      × (earlier ≡ 0 → needOf z pixels ≤ pictureRoom z tileSpace → convertSays z pixels tileSpace mapSpace ≡ 0)
   unfolding askedSays
-  done-with-room = (convert-passed z pixels tileRoom mapRoom, convert-0 z pixels tileRoom mapRoom)
+  done-with-room = (convert-passed z pixels tileSpace mapSpace, convert-0 z pixels tileSpace mapSpace)
 
 -- ---- the same over what a caller sees of a conversion that answers 0: its answer, and the buffers as it leaves them
 
@@ -141,10 +141,10 @@ module _ (z : Settings) (pixels tiles map : List ℕ) (r : Picture) (tilesAfter 
       (ap (λ (x : Picture). x .«map_bytes») (done .0 .answer)) (done .0 .alsoLent)
 
   -- redrawing the written parts is accepted, and gives the picture, cut to the depth
-  pub redrawn-written : (room : ℕ) → 64 * places z ≤ room
-      → (redrawSays (z .mode) (z .depth) (z .columns) (z .rows) (take (r .«tile_bytes») tilesAfter) (take (r .«map_bytes») mapAfter) room ≡ 0)
+  pub redrawn-written : (space : ℕ) → 64 * places z ≤ space
+      → (redrawSays (z .mode) (z .depth) (z .columns) (z .rows) (take (r .«tile_bytes») tilesAfter) (take (r .«map_bytes») mapAfter) space ≡ 0)
       × (drawn (z .mode) (z .depth) (z .columns) (z .rows) (take (r .«tile_bytes») tilesAfter) (take (r .«map_bytes») mapAfter) ≡ cutTo (z .depth) pixels)
-  redrawn-written room enough = rw (written-tiles, written-map) (redrawn-back z pixels (length tiles) (length map) room says-0 enough)
+  redrawn-written space enough = rw (written-tiles, written-map) (redrawn-back z pixels (length tiles) (length map) space says-0 enough)
 
   -- the counts of the answer
   pub counts : r .tiles + r .discarded ≡ places z

@@ -86,25 +86,25 @@ module _ (z : Settings) (pixels : List ℕ) where
 
   -- ---- a picture that is not refused
 
-  module _ (tileRoom mapRoom : ℕ) (done : convertSays z pixels tileRoom mapRoom ≡ 0) where
-    asked : askedSays z (length pixels) mapRoom ≡ 0
-    asked = convert-passed z pixels tileRoom mapRoom done .0
+  module _ (tileSpace mapSpace : ℕ) (done : convertSays z pixels tileSpace mapSpace ≡ 0) where
+    asked : askedSays z (length pixels) mapSpace ≡ 0
+    asked = convert-passed z pixels tileSpace mapSpace done .0
 
     size : IsSize (z .mode) (z .depth) (z .columns) (z .rows)
-    size = asked-sized z (length pixels) mapRoom asked
+    size = asked-sized z (length pixels) mapSpace asked
 
     picture : IsPicture z (length pixels)
-    picture = asked-picture z (length pixels) mapRoom asked
+    picture = asked-picture z (length pixels) mapSpace asked
 
-    room-for : length stored ≤ pictureRoom z tileRoom
-    room-for = omega (arith, stored-need z pixels, convert-passed z pixels tileRoom mapRoom done .1)
+    room-for : length stored ≤ pictureRoom z tileSpace
+    room-for = omega (arith, stored-need z pixels, convert-passed z pixels tileSpace mapSpace done .1)
 
     -- both buffers hold the bytes
-    pub tiles-fit : length (tileBytes z pixels) ≤ tileRoom
-    tiles-fit = omega (arith, tile-bytes-length z pixels picture, room-bytes z tileRoom (size .shallow) room-for)
+    pub tiles-fit : length (tileBytes z pixels) ≤ tileSpace
+    tiles-fit = omega (arith, tile-bytes-length z pixels picture, room-bytes z tileSpace (size .shallow) room-for)
 
-    pub map-fits : length (mapBytes z pixels) ≤ mapRoom
-    map-fits = omega (arith, map-bytes-length z pixels, asked-map z (length pixels) mapRoom asked)
+    pub map-fits : length (mapBytes z pixels) ≤ mapSpace
+    map-fits = omega (arith, map-bytes-length z pixels, asked-map z (length pixels) mapSpace asked)
 
     -- a stored tile's bytes, unpacked, are the tile
     tile-back : (k : ℕ) → k < length stored → unpacked (z .mode) (z .depth) 8 8 (take (z .depth * 8) (drop (k * (z .depth * 8)) (tileBytes z pixels))) ≡ getD stored k []
@@ -129,7 +129,7 @@ module _ (z : Settings) (pixels : List ℕ) where
         ap (entryOf (z .mode))
         (item-at (row (z .mode) .entry) (λ i. entryBytes (z .mode) (entryFor (z .palette) (foundAt z pixels i)))
         (λ i. entry-size (z .mode) (entryFor (z .palette) (foundAt z pixels i))) (places z) i lt)
-        ∙ entry-back (z .mode) (size .mode) (entryFor (z .palette) (foundAt z pixels i)) (found-fits z pixels picture (le-trans room-for (room-named z tileRoom)) i)
+        ∙ entry-back (z .mode) (size .mode) (entryFor (z .palette) (foundAt z pixels i)) (found-fits z pixels picture (le-trans room-for (room-named z tileSpace)) i)
         ∙ ap (entryFor (z .palette)) (n .found)
 
     -- the tile that it draws
@@ -148,11 +148,11 @@ module _ (z : Settings) (pixels : List ℕ) where
         let place : entryAt (z .mode) (mapBytes z pixels) i .tile ≡ n .place = ap (λ (e : Mapentry). e .tile) (entry-is i lt n) in
         lt-leb (length (tileBytes z pixels) / (z .depth * 8)) (entryAt (z .mode) (mapBytes z pixels) i .tile) (omega (arith, n .inside))
 
-    pub redraw-accepted : (room : ℕ) → 64 * places z ≤ room → redrawSays (z .mode) (z .depth) (z .columns) (z .rows) (tileBytes z pixels) (mapBytes z pixels) room ≡ 0
-    redraw-accepted room enough =
+    pub redraw-accepted : (space : ℕ) → 64 * places z ≤ space → redrawSays (z .mode) (z .depth) (z .columns) (z .rows) (tileBytes z pixels) (mapBytes z pixels) space ≡ 0
+    redraw-accepted space enough =
         sym
-        (redraw-0 (z .mode) (z .depth) (z .columns) (z .rows) (tileBytes z pixels) (mapBytes z pixels) room
-        (size-passed z (length pixels) mapRoom asked)
+        (redraw-0 (z .mode) (z .depth) (z .columns) (z .rows) (tileBytes z pixels) (mapBytes z pixels) space
+        (size-passed z (length pixels) mapSpace asked)
         (ap (λ (l : ℕ). l % (z .depth * 8)) (tile-bytes-length z pixels picture) ∙ mul-mod-left (length stored) (z .depth * 8))
         (map-bytes-length z pixels)
         (none-of (places z) (namesMore (z .mode) (z .depth) (length (tileBytes z pixels)) (mapBytes z pixels)) names-one)

@@ -69,20 +69,20 @@ sizeSays m d columns rows = firstApplying (sizeChecks m d columns rows)
 -- "Picture with flips on in a mode without flips" (5), "input length not the one required" (7), "a picture's palette index too large" (10),
 -- "output buffer shorter than the bytes to be written" (11, the map), "no room for the tiles" (12). In: the lengths of pixels, tile buffer and map.
 abbrev pub askedChecks : Settings → ℕ → ℕ → List ℕ
-askedChecks z len mapRoom =
-    sizeSays (z .mode) (z .depth) (z .columns) (z .rows)
-    ∷ 5 when (z .flip && eqb (row (z .mode) .flips) 0)
+askedChecks z len mapSpace =
+    sizeChecks (z .mode) (z .depth) (z .columns) (z .rows)
+    ++ 5 when (z .flip && eqb (row (z .mode) .flips) 0)
     ∷ 7 when not (eqb len (64 * places z))
     ∷ misfitSays (misfitOf (z .mode) (entryAs 0 (z .palette) false false))
-    ∷ 11 when ltb mapRoom (places z * row (z .mode) .entry)
+    ∷ 11 when ltb mapSpace (places z * row (z .mode) .entry)
     ∷ []
 
 abbrev pub convertChecks : Settings → List ℕ → ℕ → ℕ → List ℕ
-convertChecks z pixels tileRoom mapRoom =
-    askedChecks z (length pixels) mapRoom ++ 12 when ltb (pictureRoom z tileRoom) (needOf z pixels) ∷ []
+convertChecks z pixels tileSpace mapSpace =
+    askedChecks z (length pixels) mapSpace ++ 12 when ltb (pictureRoom z tileSpace) (needOf z pixels) ∷ []
 
 unfoldable pub convertSays : Settings → List ℕ → ℕ → ℕ → ℕ
-convertSays z pixels tileRoom mapRoom = firstApplying (convertChecks z pixels tileRoom mapRoom)
+convertSays z pixels tileSpace mapSpace = firstApplying (convertChecks z pixels tileSpace mapSpace)
 
 -- "A refusal returns its number, all else returned 0."
 abbrev pub pictured : ℕ → ℕ → ℕ → ℕ → ℕ → Picture

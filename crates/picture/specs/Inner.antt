@@ -28,7 +28,7 @@ use Rattle.picture.specs.declared.Gathered.the-variants.{Count, NoRoom}
 
 -- The checks of a conversion that count no tiles.
 unfoldable pub askedSays : Settings → ℕ → ℕ → ℕ
-askedSays z len mapRoom = firstApplying (askedChecks z len mapRoom)
+askedSays z len mapSpace = firstApplying (askedChecks z len mapSpace)
 
 -- Settings that pass them, with a picture of so many pixels.
 pub record IsPicture (z : Settings) (len : ℕ) : Type 0 where
@@ -102,20 +102,20 @@ pub record PutsTiles (m d count : ℕ) (tiles : List ℕ) : Type 0 where
   pub map : m ≡ pce-sprite → ⊥
   pub depth : T (hasDepth m d)
   pub few : count ≤ 4096
-  pub room : count * (d * 8) ≤ length tiles
+  pub space : count * (d * 8) ≤ length tiles
 
 pub record PutsMap (m palette count : ℕ) (codes map : List ℕ) : Type 0 where
   pub few : count ≤ 4096
   pub mode : m < 16
   pub entries : (i : ℕ) → i < count → IsEntry m (entryCoded palette (getD codes i 0))
-  pub room : count * row m .entry ≤ length map
+  pub space : count * row m .entry ≤ length map
 
 -- So many entries of a map.
 pub record HasEntries (m count : ℕ) (map : List ℕ) : Type 0 where
   pub mode : m < 16
   pub some : 0 < row m .entry
   pub few : count ≤ 4096
-  pub room : count * row m .entry ≤ length map
+  pub space : count * row m .entry ≤ length map
 
 -- An entry whose tile is there, to be drawn from place at of out on.
 pub record DrawsTile (m d : ℕ) (tiles : List ℕ) (e : Mapentry) (out : List ℕ) (at : ℕ) : Type 0 where
@@ -123,7 +123,7 @@ pub record DrawsTile (m d : ℕ) (tiles : List ℕ) (e : Mapentry) (out : List �
   pub map : m ≡ pce-sprite → ⊥
   pub depth : T (hasDepth m d)
   pub inside : e .tile * (d * 8) + d * 8 ≤ length tiles
-  pub room : at + 64 ≤ length out
+  pub space : at + 64 ≤ length out
 
 -- A row of tiles, from entry first of the map on, and a whole picture, that can be drawn.
 pub record DrawsStrip (m d columns first : ℕ) (tiles map out : List ℕ) : Type 0 where
@@ -133,7 +133,7 @@ pub record DrawsStrip (m d columns first : ℕ) (tiles map out : List ℕ) : Typ
   pub few : first + columns ≤ 4096
   pub inside : (first + columns) * row m .entry ≤ length map
   pub named : (x : ℕ) → x < columns → entryAt m map (first + x) .tile * (d * 8) + d * 8 ≤ length tiles
-  pub room : columns * 64 ≤ length out
+  pub space : columns * 64 ≤ length out
 
 pub record Draws (m d columns rows : ℕ) (tiles map out : List ℕ) : Type 0 where
   pub mode : m < 16
@@ -143,7 +143,7 @@ pub record Draws (m d columns rows : ℕ) (tiles map out : List ℕ) : Type 0 wh
   pub low : rows ≤ 64
   pub whole : columns * rows * row m .entry ≤ length map
   pub named : (i : ℕ) → i < columns * rows → entryAt m map i .tile * (d * 8) + d * 8 ≤ length tiles
-  pub room : 64 * (columns * rows) ≤ length out
+  pub space : 64 * (columns * rows) ≤ length out
 
 -- The tiles of a row, one after the other, and one line of their pixels.
 abbrev pub stripOf : ℕ → ℕ → ℕ → ℕ → List ℕ → List ℕ → List ℕ
@@ -156,4 +156,4 @@ pixelLine strip columns y = each columns (λ x. each 8 (λ j. getD strip (x * 64
 pub record PutsLines (strip : List ℕ) (columns lines : ℕ) (out : List ℕ) (at : ℕ) : Type 0 where
   pub narrow : columns ≤ 64
   pub long : columns * 64 ≤ length strip
-  pub room : at + lines * (columns * 8) ≤ length out
+  pub space : at + lines * (columns * 8) ≤ length out

@@ -105,8 +105,8 @@ fn palette_says(m: Mode, palette: u32) -> u32
 }
 
 // Every check of a conversion that counts no tiles.
-fn asked_says(settings: Settings, len: usize, room: usize) -> u32
-    ensures { λ r. ⌜ r ≡ askedSays settings len room ⌝ }
+fn asked_says(settings: Settings, len: usize, space: usize) -> u32
+    ensures { λ r. ⌜ r ≡ askedSays settings len space ⌝ }
 {
     let refusal = size_says(
         settings.mode,
@@ -129,7 +129,7 @@ fn asked_says(settings: Settings, len: usize, room: usize) -> u32
     if misfit != 0 {
         return misfit;
     }
-    if room < count * mapentry::mapentry_size(m) {
+    if space < count * mapentry::mapentry_size(m) {
         return 11;
     }
     0
@@ -411,9 +411,9 @@ fn redraw_says(
     rows: u32,
     tiles: &[u8],
     map: &[u8],
-    room: usize,
+    space: usize,
 ) -> u32
-    ensures { λ r. ⌜ r ≡ redrawSays mode depth columns rows (now (tiles .entry)) (now (map .entry)) room ⌝ }
+    ensures { λ r. ⌜ r ≡ redrawSays mode depth columns rows (now (tiles .entry)) (now (map .entry)) space ⌝ }
 {
     let refusal = size_says(mode, depth, columns, rows);
     if refusal != 0 {
@@ -430,7 +430,7 @@ fn redraw_says(
     if names_more(mode, map, count, tiles.len() / size) {
         return 7;
     }
-    if room < 64 * count {
+    if space < 64 * count {
         return 11;
     }
     0

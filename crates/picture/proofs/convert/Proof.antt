@@ -77,7 +77,7 @@ put-tiles-requires c κs =
       map = s .map;
       depth = s .depth;
       few = omega (arith, g .within, c .before .before .before .before .before .before .before .before .before .picture-room .ensures, room-most (a .settings) (length (now (a .tiles))) (s .mode));
-      room = room-bytes (a .settings) (length (now (a .tiles))) (s .shallow) (omega (arith, g .within, c .before .before .before .before .before .before .before .before .before .picture-room .ensures));
+      space = room-bytes (a .settings) (length (now (a .tiles))) (s .shallow) (omega (arith, g .within, c .before .before .before .before .before .before .before .before .before .picture-room .ensures));
     }
 
 mul-places : tie.Need-mul-places
@@ -94,7 +94,7 @@ put-map-requires c κs =
       few = omega (arith, few-tiles (sized (c .before .before .before .before .before .before .before .before .before .before .before .before .before .before .before .before)));
       mode = sized (c .before .before .before .before .before .before .before .before .before .before .before .before .before .before .before .before) .mode;
       entries = entries-fit g (picture (c .before .before .before .before .before .before .before .before .before .before .before .before .before .before .before .before)) (omega (arith, c .before .before .before .before .before .before .before .before .before .before .before .before .before .before .before .picture-room .ensures, room-named (a .settings) (length (now (a .tiles)))));
-      room = asked-map _ _ _ (none (c .before .before .before .before .before .before .before .before .before .before .before .before .before .before .before .before));
+      space = asked-map _ _ _ (none (c .before .before .before .before .before .before .before .before .before .before .before .before .before .before .before .before));
     }
 
 mul-size : tie.Need-mul-size

@@ -11,7 +11,7 @@ use Rattle.words.proofs.Items.{item-inside}
 use Rattle.words.proofs.Loops.{sets-front}
 use Rattle.picture.specs.Redrawing.{drawn}
 use Rattle.picture.specs.Inner.{stripOf}
-use Rattle.picture.proofs.Drawing.{Spreading, spread-none, spread-more, spread-all, rowDrawn, row-length, lines-are, rows-are, picture-length, strip-asks, row-room}
+use Rattle.picture.proofs.Drawing.{Spreading, spread-none, spread-more, spread-all, rowDrawn, row-length, lines-are, rows-are, picture-length, strip-asks, row-space}
 use borrow.Author.Needs.{needs}
 use Rattle.picture.proofs.draw.Statement.{statement}
 use Rattle.picture.proofs.draw.Tie as tie
@@ -49,7 +49,7 @@ mul-put-lines-2 : tie.Need-mul-put-lines-2 Inv-loop μ-loop
 mul-put-lines-2 c = omega (arith, c .before .before .before .before .before .before .before .before .before .before .pre .narrow)
 
 mul-put-lines-3 : tie.Need-mul-put-lines-3 Inv-loop μ-loop
-mul-put-lines-3 c = let a = c .before .before .before .before .before .before .before .before .before .before .args in omega (arith, row-room (a .columns) (a .rows) (c .before .before .before .before .before .before .loop .y) (c .before .before .before .before .before .loop-test .taken), few (c .before .before .before .before .before .before .before .before .before .before))
+mul-put-lines-3 c = let a = c .before .before .before .before .before .before .before .before .before .before .args in omega (arith, row-space (a .columns) (a .rows) (c .before .before .before .before .before .before .loop .y) (c .before .before .before .before .before .loop-test .taken), few (c .before .before .before .before .before .before .before .before .before .before))
 
 put-lines-requires : tie.Need-put-lines-requires Inv-loop μ-loop
 put-lines-requires c κs =
@@ -61,7 +61,7 @@ put-lines-requires c κs =
     record {
       narrow = s .pre .narrow;
       long = omega (arith, same, s .pre .narrow);
-      room = omega (arith, row-room (a .columns) (a .rows) (lp .y) (c .before .before .before .before .before .loop-test .taken), s .pre .room, lp .inv .1 .long);
+      space = omega (arith, row-space (a .columns) (a .rows) (lp .y) (c .before .before .before .before .before .loop-test .taken), s .pre .space, lp .inv .1 .long);
     }
 
 add-y : tie.Need-add-y Inv-loop μ-loop
@@ -95,7 +95,7 @@ returns c =
     let l = picture-length (a .mode) (a .depth) (a .columns) (now (a .tiles)) (now (a .map)) (a .rows) in
     spread-all (a .rows) (c .before .loop .inv .1) (omega arith)
     ∙ ap (λ (l : List ℕ). sets (now (a .out)) 0 l) e
-    ∙ sets-front (now (a .out)) (drawn (a .mode) (a .depth) (a .columns) (a .rows) (now (a .tiles)) (now (a .map))) (omega (arith, c .before .before .before .before .before .pre .room))
+    ∙ sets-front (now (a .out)) (drawn (a .mode) (a .depth) (a .columns) (a .rows) (now (a .tiles)) (now (a .map))) (omega (arith, c .before .before .before .before .before .pre .space))
 
 pub draw-spec : {M : Type 1} → statement M
 draw-spec =

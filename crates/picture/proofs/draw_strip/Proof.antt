@@ -55,7 +55,7 @@ draw-tile-requires c κs =
       map = s .pre .mapped;
       depth = s .pre .depth;
       inside = subst (λ (e : Mapentry). e .tile * (a .depth * 8) + a .depth * 8 ≤ length (now (a .tiles))) (sym e) (s .pre .named x (c .before .before .loop-test .taken));
-      room = omega (arith, s .pre .room, c .before .before .loop-test .taken, c .before .before .before .loop .inv .1 .long);
+      space = omega (arith, s .pre .space, c .before .before .loop-test .taken, c .before .before .before .loop .inv .1 .long);
     }
 
 add-x : tie.Need-add-x Inv-loop μ-loop

@@ -33,12 +33,12 @@ loop-holds c = (omega arith, refl)
 mul-get-entry : tie.Need-mul-get-entry Inv-loop μ-loop
 mul-get-entry c =
     let s = c .before .before .before .before in
-    rw (c .before .before .mapentry-size .ensures) (omega (arith, item-inside (row (s .args .mode) .entry) (s .args .count) (c .before .loop .i) (c .loop-test .taken), s .pre .room))
+    rw (c .before .before .mapentry-size .ensures) (omega (arith, item-inside (row (s .args .mode) .entry) (s .args .count) (c .before .loop .i) (c .loop-test .taken), s .pre .space))
 
 get-entry-requires : tie.Need-get-entry-requires Inv-loop μ-loop
 get-entry-requires c κs =
     let s = c .before .before .before .before in
-    (s .pre .mode, s .pre .some, rw (c .before .before .mapentry-size .ensures) (omega (arith, item-inside (row (s .args .mode) .entry) (s .args .count) (c .before .loop .i) (c .loop-test .taken), s .pre .room)))
+    (s .pre .mode, s .pre .some, rw (c .before .before .mapentry-size .ensures) (omega (arith, item-inside (row (s .args .mode) .entry) (s .args .count) (c .before .loop .i) (c .loop-test .taken), s .pre .space)))
 
 cast-if1 : tie.Need-cast-if1 Inv-loop μ-loop
 cast-if1 c = search needs

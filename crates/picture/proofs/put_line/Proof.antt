@@ -35,12 +35,12 @@ mul-put-eight-3 : tie.Need-mul-put-eight-3 Inv-loop μ-loop
 mul-put-eight-3 c = omega (arith, c .before .before .before .before .before .pre .1 .narrow)
 
 add-put-eight-2 : tie.Need-add-put-eight-2 Inv-loop μ-loop
-add-put-eight-2 c = omega (arith, c .before .before .before .before .before .pre .1 .room)
+add-put-eight-2 c = omega (arith, c .before .before .before .before .before .pre .1 .space)
 
 put-eight-requires : tie.Need-put-eight-requires Inv-loop μ-loop
 put-eight-requires c κs =
     let p = c .before .before .before .before .before .pre in
-    (omega arith, omega (arith, p .0, p .1 .long, c .before .loop-test .taken), omega (arith, p .1 .room, c .before .loop-test .taken, c .before .before .loop .inv .1 .long))
+    (omega arith, omega (arith, p .0, p .1 .long, c .before .loop-test .taken), omega (arith, p .1 .space, c .before .loop-test .taken, c .before .before .loop .inv .1 .long))
 
 add-x : tie.Need-add-x Inv-loop μ-loop
 add-x c = search needs

@@ -22,10 +22,10 @@ mul-put-line : tie.Need-mul-put-line Inv-loop μ-loop
 mul-put-line c = omega (arith, c .before .before .before .before .before .pre .narrow)
 
 mul-put-line-2 : tie.Need-mul-put-line-2 Inv-loop μ-loop
-mul-put-line-2 c = omega (arith, item-inside (c .before .before .before .before .before .args .columns * 8) 8 (c .before .before .loop .y) (c .before .loop-test .taken), c .before .before .before .before .before .pre .room)
+mul-put-line-2 c = omega (arith, item-inside (c .before .before .before .before .before .args .columns * 8) 8 (c .before .before .loop .y) (c .before .loop-test .taken), c .before .before .before .before .before .pre .space)
 
 add-put-line : tie.Need-add-put-line Inv-loop μ-loop
-add-put-line c = omega (arith, item-inside (c .before .before .before .before .before .args .columns * 8) 8 (c .before .before .loop .y) (c .before .loop-test .taken), c .before .before .before .before .before .pre .room)
+add-put-line c = omega (arith, item-inside (c .before .before .before .before .before .args .columns * 8) 8 (c .before .before .loop .y) (c .before .loop-test .taken), c .before .before .before .before .before .pre .space)
 
 put-line-requires : tie.Need-put-line-requires Inv-loop μ-loop
 put-line-requires c κs =
@@ -34,7 +34,7 @@ put-line-requires c κs =
       record {
         narrow = p .narrow;
         long = p .long;
-        room = omega (arith, item-inside (c .before .before .before .before .before .args .columns * 8) 8 (c .before .before .loop .y) (c .before .loop-test .taken), p .room, c .before .before .loop .inv .1 .long);
+        space = omega (arith, item-inside (c .before .before .before .before .before .args .columns * 8) 8 (c .before .before .loop .y) (c .before .loop-test .taken), p .space, c .before .before .loop .inv .1 .long);
       },
     )
 

@@ -43,13 +43,13 @@ entry-coded-requires c κs = search needs
 mul-put-entry : tie.Need-mul-put-entry Inv-loop μ-loop
 mul-put-entry c =
     let s = c .before .before .before .before .before .before .before in
-    rw (c .before .before .before .before .before .mapentry-size .ensures) (omega (arith, item-space (s .args .count) (row (s .args .mode) .entry) _ (c .before .before .before .before .loop .i) (s .pre .room) (c .before .before .before .loop-test .taken)))
+    rw (c .before .before .before .before .before .mapentry-size .ensures) (omega (arith, item-space (s .args .count) (row (s .args .mode) .entry) _ (c .before .before .before .before .loop .i) (s .pre .space) (c .before .before .before .loop-test .taken)))
 
 put-entry-requires : tie.Need-put-entry-requires Inv-loop μ-loop
 put-entry-requires c κs =
     let s = c .before .before .before .before .before .before .before in (
       subst (λ (e : Mapentry). IsEntry (s .args .mode) e) (sym (c .before .entry-coded .ensures)) (s .pre .entries (c .before .before .before .before .loop .i) (c .before .before .before .loop-test .taken)),
-      rw (c .before .before .before .before .before .mapentry-size .ensures) (omega (arith, item-space (s .args .count) (row (s .args .mode) .entry) _ (c .before .before .before .before .loop .i) (s .pre .room) (c .before .before .before .loop-test .taken), c .before .before .before .before .loop .inv .1 .long)),
+      rw (c .before .before .before .before .before .mapentry-size .ensures) (omega (arith, item-space (s .args .count) (row (s .args .mode) .entry) _ (c .before .before .before .before .loop .i) (s .pre .space) (c .before .before .before .loop-test .taken), c .before .before .before .before .loop .inv .1 .long)),
     )
 
 add-i : tie.Need-add-i Inv-loop μ-loop
@@ -64,7 +64,7 @@ loop-again c =
     let lp = c .before .before .before .before .before .before .before .loop in
     let m = s .args .mode in (
       omega arith,
-      fill-more (size-is s) (lp .inv .1) (item-space (s .args .count) (row m .entry) _ (lp .i) (s .pre .room) (c .before .before .before .before .before .before .loop-test .taken))
+      fill-more (size-is s) (lp .inv .1) (item-space (s .args .count) (row m .entry) _ (lp .i) (s .pre .space) (c .before .before .before .before .before .before .loop-test .taken))
           (c .before .before .put-entry .ensures ∙ ap (λ (n : ℕ). sets (lp .map) (lp .i * n) (entryBytes m (c .before .before .before .before .entry-coded .result))) (c .before .before .before .before .before .before .before .before .mapentry-size .ensures) ∙ ap (λ (e : Mapentry). sets (lp .map) (lp .i * row m .entry) (entryBytes m e)) (c .before .before .before .before .entry-coded .ensures)),
     )
 

@@ -44,11 +44,11 @@ mul-put-tile : tie.Need-mul-put-tile Inv-loop μ-loop
 mul-put-tile c = search needs
 
 mul-put-tile-2 : tie.Need-mul-put-tile-2 Inv-loop μ-loop
-mul-put-tile-2 c = omega (arith, item-space (c .before .before .before .before .before .before .args .count) (c .before .before .before .before .before .before .args .depth * 8) _ (c .before .before .before .loop .k) (c .before .before .before .before .before .before .pre .room) (c .before .before .loop-test .taken))
+mul-put-tile-2 c = omega (arith, item-space (c .before .before .before .before .before .before .args .count) (c .before .before .before .before .before .before .args .depth * 8) _ (c .before .before .before .loop .k) (c .before .before .before .before .before .before .pre .space) (c .before .before .loop-test .taken))
 
 put-tile-requires : tie.Need-put-tile-requires Inv-loop μ-loop
 put-tile-requires c κs =
-    packs-at (c .before .before .before .before .packing-of .ensures) (tiled (c .before .before .before .before .before .before)) _ _ _ _ (omega (arith, c .before .put-tile-arg .given, c .before .before .before .before .before .before .pre .few, c .before .before .loop-test .taken)) (omega (arith, item-space (c .before .before .before .before .before .before .args .count) (c .before .before .before .before .before .before .args .depth * 8) _ (c .before .before .before .loop .k) (c .before .before .before .before .before .before .pre .room) (c .before .before .loop-test .taken), c .before .before .before .loop .inv .1 .long))
+    packs-at (c .before .before .before .before .packing-of .ensures) (tiled (c .before .before .before .before .before .before)) _ _ _ _ (omega (arith, c .before .put-tile-arg .given, c .before .before .before .before .before .before .pre .few, c .before .before .loop-test .taken)) (omega (arith, item-space (c .before .before .before .before .before .before .args .count) (c .before .before .before .before .before .before .args .depth * 8) _ (c .before .before .before .loop .k) (c .before .before .before .before .before .before .pre .space) (c .before .before .loop-test .taken), c .before .before .before .loop .inv .1 .long))
 
 add-k : tie.Need-add-k Inv-loop μ-loop
 add-k c = search needs
@@ -60,7 +60,7 @@ loop-again : tie.Need-loop-again Inv-loop μ-loop
 loop-again c =
     let s = c .before .before .before .before .before .before .before .before .before in
     let lp = c .before .before .before .before .before .before .loop in
-    (omega arith, fill-more (size-is s) (lp .inv .1) (item-space (s .args .count) (s .args .depth * 8) _ (lp .k) (s .pre .room) (c .before .before .before .before .before .loop-test .taken)) (c .before .before .put-tile .ensures ∙ ap (λ (l : List ℕ). sets (lp .tiles) (lp .k * (s .args .depth * 8)) l) (packs-bytes (c .before .before .before .before .before .before .before .packing-of .ensures) (tiled s) (now (s .args .store)) (lp .k * 64))))
+    (omega arith, fill-more (size-is s) (lp .inv .1) (item-space (s .args .count) (s .args .depth * 8) _ (lp .k) (s .pre .space) (c .before .before .before .before .before .loop-test .taken)) (c .before .before .put-tile .ensures ∙ ap (λ (l : List ℕ). sets (lp .tiles) (lp .k * (s .args .depth * 8)) l) (packs-bytes (c .before .before .before .before .before .before .before .packing-of .ensures) (tiled s) (now (s .args .store)) (lp .k * 64))))
 
 same-length : tie.Need-same-length Inv-loop μ-loop
 same-length c = search needs

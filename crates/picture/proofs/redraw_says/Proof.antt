@@ -25,7 +25,7 @@ size-says-requires : tie.Need-size-says-requires
 size-says-requires c κs = search needs
 
 returns : tie.Need-returns
-returns c = let a = c .before .before .before .before .args in redraw-size (a .mode) (a .depth) (a .columns) (a .rows) (now (a .tiles)) (now (a .map)) (a .room) (c .before .size-says .result) (c .before .size-says .ensures) (c .if1 .taken)
+returns c = let a = c .before .before .before .before .args in redraw-size (a .mode) (a .depth) (a .columns) (a .rows) (now (a .tiles)) (now (a .map)) (a .space) (c .before .size-says .result) (c .before .size-says .ensures) (c .if1 .taken)
 
 mul-size : tie.Need-mul-size
 mul-size c = omega (arith, sound c .deep)
@@ -37,7 +37,7 @@ rem-if2 : tie.Need-rem-if2
 rem-if2 c = omega (arith, sound c .shallow)
 
 returns-2 : tie.Need-returns-2
-returns-2 c = let a = c .before .before .before .before .before .args in redraw-tiles (a .mode) (a .depth) (a .columns) (a .rows) (now (a .tiles)) (now (a .map)) (a .room) (none (c .before)) (c .if2 .taken)
+returns-2 c = let a = c .before .before .before .before .before .args in redraw-tiles (a .mode) (a .depth) (a .columns) (a .rows) (now (a .tiles)) (now (a .map)) (a .space) (none (c .before)) (c .if2 .taken)
 
 mul-count : tie.Need-mul-count
 mul-count c = omega (arith, few-tiles (sound (c .before)))
@@ -57,7 +57,7 @@ mul-if3 c =
 returns-3 : tie.Need-returns-3
 returns-3 c =
     let a = c .before .before .before .before .before .before .before .args in
-    redraw-map (a .mode) (a .depth) (a .columns) (a .rows) (now (a .tiles)) (now (a .map)) (a .room) (none (c .before .before .before)) (c .before .before .if2 .left) (λ e. c .if3 .taken (e ∙ ap (λ (n : ℕ). a .columns * a .rows * n) (sym (c .before .mapentry-size .ensures))))
+    redraw-map (a .mode) (a .depth) (a .columns) (a .rows) (now (a .tiles)) (now (a .map)) (a .space) (none (c .before .before .before)) (c .before .before .if2 .left) (λ e. c .if3 .taken (e ∙ ap (λ (n : ℕ). a .columns * a .rows * n) (sym (c .before .mapentry-size .ensures))))
 
 div-names-more : tie.Need-div-names-more
 div-names-more c = omega (arith, sound (c .before .before .before) .shallow)
@@ -70,13 +70,13 @@ names-more-requires c κs =
       mode = sound (c .before .before .before) .mode;
       some = some-byte (a .mode) (sound (c .before .before .before) .mode) (sound (c .before .before .before) .map);
       few = few-tiles (sound (c .before .before .before));
-      room = omega arith;
+      space = omega arith;
     }
 
 returns-4 : tie.Need-returns-4
 returns-4 c =
     let a = c .before .before .before .before .before .before .before .before .before .args in
-    redraw-named (a .mode) (a .depth) (a .columns) (a .rows) (now (a .tiles)) (now (a .map)) (a .room) (none (c .before .before .before .before .before)) (c .before .before .before .before .if2 .left) (c .before .before .if3 .left ∙ ap (λ (n : ℕ). a .columns * a .rows * n) (c .before .before .before .mapentry-size .ensures)) (sym (c .before .names-more .ensures) ∙ c .if4 .taken)
+    redraw-named (a .mode) (a .depth) (a .columns) (a .rows) (now (a .tiles)) (now (a .map)) (a .space) (none (c .before .before .before .before .before)) (c .before .before .before .before .if2 .left) (c .before .before .if3 .left ∙ ap (λ (n : ℕ). a .columns * a .rows * n) (c .before .before .before .mapentry-size .ensures)) (sym (c .before .names-more .ensures) ∙ c .if4 .taken)
 
 mul-if5 : tie.Need-mul-if5
 mul-if5 c = omega (arith, few-tiles (sound (c .before .before .before .before .before)))
@@ -84,12 +84,12 @@ mul-if5 c = omega (arith, few-tiles (sound (c .before .before .before .before .b
 returns-5 : tie.Need-returns-5
 returns-5 c =
     let a = c .before .before .before .before .before .before .before .before .before .before .args in
-    redraw-11 (a .mode) (a .depth) (a .columns) (a .rows) (now (a .tiles)) (now (a .map)) (a .room) (none (c .before .before .before .before .before .before)) (c .before .before .before .before .before .if2 .left) (c .before .before .before .if3 .left ∙ ap (λ (n : ℕ). a .columns * a .rows * n) (c .before .before .before .before .mapentry-size .ensures)) (sym (c .before .before .names-more .ensures) ∙ c .before .if4 .left) (c .if5 .taken)
+    redraw-11 (a .mode) (a .depth) (a .columns) (a .rows) (now (a .tiles)) (now (a .map)) (a .space) (none (c .before .before .before .before .before .before)) (c .before .before .before .before .before .if2 .left) (c .before .before .before .if3 .left ∙ ap (λ (n : ℕ). a .columns * a .rows * n) (c .before .before .before .before .mapentry-size .ensures)) (sym (c .before .before .names-more .ensures) ∙ c .before .if4 .left) (c .if5 .taken)
 
 returns-6 : tie.Need-returns-6
 returns-6 c =
     let a = c .before .before .before .before .before .before .before .before .before .before .args in
-    redraw-0 (a .mode) (a .depth) (a .columns) (a .rows) (now (a .tiles)) (now (a .map)) (a .room) (none (c .before .before .before .before .before .before)) (c .before .before .before .before .before .if2 .left) (c .before .before .before .if3 .left ∙ ap (λ (n : ℕ). a .columns * a .rows * n) (c .before .before .before .before .mapentry-size .ensures)) (sym (c .before .before .names-more .ensures) ∙ c .before .if4 .left) (c .if5 .left)
+    redraw-0 (a .mode) (a .depth) (a .columns) (a .rows) (now (a .tiles)) (now (a .map)) (a .space) (none (c .before .before .before .before .before .before)) (c .before .before .before .before .before .if2 .left) (c .before .before .before .if3 .left ∙ ap (λ (n : ℕ). a .columns * a .rows * n) (c .before .before .before .before .mapentry-size .ensures)) (sym (c .before .before .names-more .ensures) ∙ c .before .if4 .left) (c .if5 .left)
 
 pub redraw-says-spec : {M : Type 1} → statement M
 redraw-says-spec =
