@@ -4,7 +4,7 @@ use mathlib.Core.Path.{_≡_, refl, sym, ap, _∙_, subst}
 use mathlib.Core.Bool.{Bool, true, false, cond}
 use mathlib.Core.List.{List, [], _∷_, map, map-append}
 use Prim.Native.Nat.{ℕ, zero, suc, _+_, _*_, _/_, _%_, _<_, _≤_, _^_}
-use native.Mathlib.Nat.{mod-mod, mod-lt, div-one, div-add-mod'}
+use native.Mathlib.Nat.{mod-mod, mod-lt}
 use native.Mathlib.Omega.{arith}
 use lib.ListN.{length, getD, take, drop, length-map, List·getD-map}
 use lib.Seq.{getD-take, getD-drop}
@@ -16,7 +16,7 @@ use Rattle.words.proofs.Filling.{each-of}
 use Rattle.mode.specs.Table.{pce-sprite}
 use Rattle.tile.specs.Tile.{packed}
 use Rattle.tileset.specs.Sets.{area, roomIn, newSet, withCounts}
-use Rattle.tileset.specs.Numbers.{rowCells, belongsTo, tileOf}
+use Rattle.tileset.specs.Numbers.{rowCells, tileOf}
 use Rattle.tileset.specs.Writing.{cellCount, cornerOf, block, cellBytes, setBytes}
 use Rattle.tileset.specs.Adding.{discards, oneStored, oneDiscarded, addSays, added}
 use Rattle.tileset.specs.Finding.{cutTo, tilesIn}
@@ -33,6 +33,7 @@ use Rattle.picture.specs.Cells.{pixelAt, cutTile, cutTiles}
 use Rattle.picture.specs.Converting.{places, pictureTiles, storedOf, needOf, tileBytes, sizeSays}
 use Rattle.picture.specs.declared.Settings.{Settings}
 use Rattle.picture.proofs.Checks.{set-8, size-of, few-tiles}
+use Rattle.picture.proofs.Cells.{logical-8}
 use Rattle.picture.proofs.Kept.{length-cutTile, kept-sizes}
 use Rattle.picture.proofs.Converted.{length-tiles, tile-is, stored-need}
 
@@ -69,16 +70,12 @@ settings-kept z s (p ∷ ps) =
     let end = setAtEnd (setAfter z s p) (storeAfter z s p) ps in
     settings-kept (setAfter z s p) (storeAfter z s p) ps ∙ ap (λ (x : Set). withCounts x (end .stored) (end .discarded)) (one-kept z (addSays z s p) (discards z s p))
 
-cell-tile : (m c : ℕ) → tileOf m 8 8 c ≡ c
-unfolding belongsTo
-cell-tile m c = rw (div-one (c / rowCells m), div-one (rowCells m), div-one (c % rowCells m)) (div-add-mod' c (rowCells m))
-
 cell-corner : (m c : ℕ) → cornerOf m 8 8 c ≡ c * 64
 unfolding cornerOf
 cell-corner m c =
     let row : c / rowCells m % 1 < 1 = mod-lt (c / rowCells m) (omega arith) in
     let column : c % rowCells m % 1 < 1 = mod-lt (c % rowCells m) (omega arith) in
-    omega (arith, cell-tile m c)
+    omega (arith, logical-8 m c)
 
 -- eight rows of eight are 64 pixels in their order
 block-8 : (store : List ℕ) (at : ℕ) → length (take 64 (drop at store)) ≡ 64 → block store at 8 ≡ take 64 (drop at store)
@@ -103,7 +100,7 @@ module _ (m d : ℕ) (other : m ≡ pce-sprite → ⊥) (flips discarding : Bool
       (each-eq stored (cellBytes counted store) (λ k. packed m d 8 8 (getD ts k []))
       (λ k lt.
       let is : take 64 (drop (k * 64) store) ≡ getD ts k [] = sym (tiles-at 64 store stored k lt) ∙ ap (λ (x : List (List ℕ)). getD x k []) e in
-      let there : tileOf m 8 8 k < stored = omega (arith, cell-tile m k) in
+      let there : tileOf m 8 8 k < stored = omega (arith, logical-8 m k) in
       ap (packed m d 8 8)
       (sym (cell-there counted store k there)
       ∙ ap (λ (n : ℕ). block store n 8) (cell-corner m k)

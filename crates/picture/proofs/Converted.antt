@@ -1,6 +1,6 @@
 -- What a conversion gives: where each tile is found, how many are stored, the entries, and how many bytes.
 -- Assumes nothing.
-use mathlib.Core.Path.{_≡_, refl, ap, _∙_}
+use mathlib.Core.Path.{_≡_, refl, sym, ap, _∙_, subst}
 use mathlib.Core.Bool.{Bool, true, false, _&&_}
 use mathlib.Core.List.{List, []}
 use Prim.Native.Nat.{ℕ, suc, _+_, _*_, _^_, _<_, _≤_}
@@ -33,6 +33,7 @@ use Rattle.picture.specs.Inner.{IsPicture}
 use Rattle.picture.specs.declared.Settings.{Settings}
 use Rattle.tileset.proofs.Keeping.{look-told, kept-need, need-discarded}
 use Rattle.picture.proofs.Kept.{cutTiles-at, found-here, found-final, length-cutTiles}
+use Rattle.picture.proofs.Cells.{native-8}
 use Rattle.picture.proofs.Checks.{native-tile}
 
 pub bit-small : (b : Bool) → bit b ≤ 1
@@ -68,13 +69,14 @@ module _ (z : Settings) (pixels : List ℕ) where
   pub found-taken : (i : ℕ) → i < places z
       → foundAt z pixels i
       ≡ lookUp (z .flip) 8 8 (kept (z .discard) (z .flip) 8 8 (cutTiles (z .depth) 8 8 (z .columns) pixels (suc i))) (cutTile (z .depth) 8 8 (z .columns) pixels i)
-  unfolding foundAt storedOf pictureTiles
+  unfolding foundAt storedOf pictureTiles kept
   found-taken i lt =
       ap (lookUp (z .flip) 8 8 (storedOf z pixels)) (tile-is i lt)
-      ∙ found-final (z .discard) (z .flip) (z .depth) 8 8 (z .columns) pixels (omega arith) (places z) i lt
+      ∙ found-final (z .discard) (z .flip) (z .depth) 8 8 (z .columns) pixels [] 0 (omega arith) (places z) i (omega arith) lt
 
   pub is-found : (i : ℕ) → i < places z → isFound (foundAt z pixels i) ≡ true
-  is-found i lt = ap isFound (found-taken i lt) ∙ found-here (z .discard) (z .flip) (z .depth) 8 8 (z .columns) pixels (omega arith) i
+  unfolding kept
+  is-found i lt = ap isFound (found-taken i lt) ∙ found-here (z .discard) (z .flip) (z .depth) 8 8 (z .columns) pixels [] 0 (omega arith) i (omega arith)
 
   -- ---- counts
 
@@ -90,13 +92,13 @@ module _ (z : Settings) (pixels : List ℕ) where
   -- ---- entries
 
   module _ (s : IsPicture z (length pixels)) (room : length (storedOf z pixels) ≤ 2 ^ row (z .mode) .tile) where
-    fits-case : (i : ℕ) (r : Found) → foundAt z pixels i ≡ r → Fitting (z .mode) (entryFor (z .palette) r)
+    fits-case : (i : ℕ) (r : Found) → foundAt z pixels i ≡ r → Fitting (z .mode) (entryFor (z .mode) 8 8 (z .palette) r)
     unfolding foundAt
     fits-case i (At k f) e =
         let told = look-told (z .flip) 8 8 (getD (pictureTiles z pixels) i []) (storedOf z pixels) e in
         let flips = flip-fits (z .flip) (row (z .mode) .flips) f (s .flips) (told .1 .0) in
         record {
-          tile = lt-of-lt-of-le (told .0) room;
+          tile = subst (λ (n : ℕ). n < 2 ^ row (z .mode) .tile) (sym (native-8 (z .mode) k)) (lt-of-lt-of-le (told .0) room);
           palette = s .palette;
           h = flips .0;
           v = flips .1;
@@ -111,9 +113,9 @@ module _ (z : Settings) (pixels : List ℕ) where
           priority = pow-pos (row (z .mode) .priority);
         }
 
-    pub found-fits : (i : ℕ) → IsEntry (z .mode) (entryFor (z .palette) (foundAt z pixels i))
+    pub found-fits : (i : ℕ) → IsEntry (z .mode) (entryFor (z .mode) 8 8 (z .palette) (foundAt z pixels i))
     found-fits i =
-        record { mode = s .mode; map = s .map; fits = fits-all (z .mode) (entryFor (z .palette) (foundAt z pixels i)) (fits-case i (foundAt z pixels i) refl) }
+        record { mode = s .mode; map = s .map; fits = fits-all (z .mode) (entryFor (z .mode) 8 8 (z .palette) (foundAt z pixels i)) (fits-case i (foundAt z pixels i) refl) }
 
   -- ---- bytes
 
@@ -126,5 +128,5 @@ module _ (z : Settings) (pixels : List ℕ) where
   pub map-bytes-length : length (mapBytes z pixels) ≡ places z * row (z .mode) .entry
   unfolding mapBytes
   map-bytes-length =
-      length-each (places z) (row (z .mode) .entry) (λ i. entryBytes (z .mode) (entryFor (z .palette) (foundAt z pixels i)))
-      (λ i. entry-size (z .mode) (entryFor (z .palette) (foundAt z pixels i)))
+      length-each (places z) (row (z .mode) .entry) (λ i. entryBytes (z .mode) (entryFor (z .mode) 8 8 (z .palette) (foundAt z pixels i)))
+      (λ i. entry-size (z .mode) (entryFor (z .mode) 8 8 (z .palette) (foundAt z pixels i)))

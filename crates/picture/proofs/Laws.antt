@@ -253,8 +253,7 @@ module _ (z : Settings) (pixels tiles map : List ℕ) (r : Picture) (tilesAfter 
 
   pub redraw-gives : Wrote redrawDue redrawn out w after → (w .refusal ≡ 0) × (take (w .written) after ≡ cutTo (z .depth) pixels)
   redraw-gives q =
-      let back = redrawn-written z pixels tiles map r tilesAfter mapAfter done (length out) space in
-      (
+      let back = redrawn-written z pixels tiles map r tilesAfter mapAfter done (length out) space in (
         ap (λ (x : Written). x .refusal) (q .answer) ∙ back .0,
         front redrawDue redrawn out after (w .written) (back .0) (ap (λ (x : Written). x .written) (q .answer)) (q .lent) ∙ back .1,
       )

@@ -16,6 +16,7 @@ use Rattle.words.proofs.Items.{none-at}
 use Rattle.words.proofs.Order.{first-append}
 use Rattle.mode.specs.Table.{row}
 use Rattle.tileset.proofs.Says.{next-given}
+use Rattle.picture.specs.Entries.{tileNamed}
 use Rattle.picture.specs.Converting.{sizeChecks, sizeSays}
 use Rattle.picture.specs.Redrawing.{entryAt, namesMore, redrawSays}
 use Rattle.picture.specs.Inner.{Draws}
@@ -107,7 +108,7 @@ module _ (m d columns rows : ℕ) (tiles map : List ℕ) (space : ℕ) where
           narrow = s .narrow;
           low = s .low;
           whole = omega (arith, eqb-true (length map) due (not-false (eqb (length map) due) (not-given 6 (not (eqb (length map) due)) (passed 2))));
-          named = λ i lt. tile-there (entryAt m map i .tile) (d * 8) (length tiles) (omega (arith, s .shallow))
-              (leb-false (length tiles / (d * 8)) (entryAt m map i .tile) (none-at (columns * rows) (namesMore m d (length tiles) map) (not-given 6 more (passed 3)) i lt));
+          named = λ i lt. tile-there (tileNamed m 8 8 (entryAt m map i)) (d * 8) (length tiles) (omega (arith, s .shallow))
+              (leb-false (length tiles / (d * 8)) (tileNamed m 8 8 (entryAt m map i)) (none-at (columns * rows) (namesMore m d (length tiles) map) (not-given 6 more (passed 3)) i lt));
           space = omega (arith, ltb-false space (64 * (columns * rows)) (not-given 10 (ltb space (64 * (columns * rows))) (passed 4)));
         }

@@ -13,7 +13,6 @@ use Rattle.words.specs.Loops.{some}
 use Rattle.words.proofs.Items.{item-at}
 use Rattle.mode.specs.Table.{row}
 use Rattle.mapentry.specs.Entry.{entryBytes, entryOf}
-use Rattle.mapentry.specs.declared.Mapentry.{Mapentry}
 use Rattle.mapentry.proofs.Trips.{entry-back}
 use Rattle.tile.specs.Tile.{packed, unpacked}
 use Rattle.tile.proofs.Laws.{pixels-back}
@@ -21,18 +20,19 @@ use Rattle.flip.specs.Flips.{flipped}
 use Rattle.flip.specs.declared.Flip.{Flip}
 use Rattle.flip.proofs.Equivalence.{not-both}
 use Rattle.tileset.specs.Finding.{lookUp, isFound, cutTo, tilesIn}
+use Rattle.tileset.specs.Numbers.{firstCell}
 use Rattle.tileset.specs.declared.Found.{Found}
 use Rattle.tileset.specs.declared.Found.the-variants.{At, Nothing}
 use Rattle.tileset.proofs.Stores.{length-cut, cut-at}
 use Rattle.index.proofs.Chains.{tiles-at, tiles-long}
 use Rattle.picture.specs.Cells.{tileOver, placeOver, cutTile}
-use Rattle.picture.specs.Entries.{entryAs, entryFor}
+use Rattle.picture.specs.Entries.{entryAs, entryFor, tileNamed}
 use Rattle.picture.specs.Converting.{places, pictureTiles, storedOf, tileBytes, foundAt, mapBytes, pictureRoom, convertSays}
 use Rattle.picture.specs.Redrawing.{entryAt, drawnTile, drawn, namesMore, redrawSays}
 use Rattle.picture.specs.Inner.{askedSays, IsPicture}
 use Rattle.picture.specs.declared.Settings.{Settings}
 use Rattle.picture.proofs.Checks.{IsSize, tile-8, native-tile, size-passed, asked-sized, asked-picture, asked-map, room-named, room-bytes, convert-passed}
-use Rattle.picture.proofs.Cells.{number-at, cutTile-at, pixelAt-back, placeOver-lt, tileOver-lt}
+use Rattle.picture.proofs.Cells.{named-back, number-at, cutTile-at, pixelAt-back, placeOver-lt, tileOver-lt}
 use Rattle.tileset.proofs.Keeping.{look-told}
 use Rattle.picture.proofs.Kept.{kept-sizes, kept-small}
 use Rattle.picture.proofs.Converted.{packed-size, entry-size, tile-is, is-found, stored-need, found-fits, tile-bytes-length, map-bytes-length}
@@ -123,14 +123,14 @@ module _ (z : Settings) (pixels : List ℕ) where
         (λ k lt. ap (unpacked (z .mode) (z .depth) 8 8) (tiles-at (z .depth * 8) (tileBytes z pixels) (length stored) k lt) ∙ tile-back k lt)
 
     -- the entry that is read back
-    entry-is : (i : ℕ) → i < places z → (n : Named i) → entryAt (z .mode) (mapBytes z pixels) i ≡ entryAs (n .place) (z .palette) (n .under .h) (n .under .v)
+    entry-is : (i : ℕ) → i < places z → (n : Named i) → entryAt (z .mode) (mapBytes z pixels) i ≡ entryAs (firstCell (z .mode) 8 8 (n .place)) (z .palette) (n .under .h) (n .under .v)
     unfolding entryAt mapBytes
     entry-is i lt n =
         ap (entryOf (z .mode))
-        (item-at (row (z .mode) .entry) (λ i. entryBytes (z .mode) (entryFor (z .palette) (foundAt z pixels i)))
-        (λ i. entry-size (z .mode) (entryFor (z .palette) (foundAt z pixels i))) (places z) i lt)
-        ∙ entry-back (z .mode) (size .mode) (entryFor (z .palette) (foundAt z pixels i)) (found-fits z pixels picture (le-trans room-for (room-named z tileSpace)) i)
-        ∙ ap (entryFor (z .palette)) (n .found)
+        (item-at (row (z .mode) .entry) (λ i. entryBytes (z .mode) (entryFor (z .mode) 8 8 (z .palette) (foundAt z pixels i)))
+        (λ i. entry-size (z .mode) (entryFor (z .mode) 8 8 (z .palette) (foundAt z pixels i))) (places z) i lt)
+        ∙ entry-back (z .mode) (size .mode) (entryFor (z .mode) 8 8 (z .palette) (foundAt z pixels i)) (found-fits z pixels picture (le-trans room-for (room-named z tileSpace)) i)
+        ∙ ap (entryFor (z .mode) 8 8 (z .palette)) (n .found)
 
     -- the tile that it draws
     drawn-tile : (i : ℕ) → i < places z → drawnTile (z .mode) (z .depth) (tileBytes z pixels) (entryAt (z .mode) (mapBytes z pixels) i) ≡ tile i
@@ -138,6 +138,7 @@ module _ (z : Settings) (pixels : List ℕ) where
     drawn-tile i lt =
         let n = named i lt in
         ap (drawnTile (z .mode) (z .depth) (tileBytes z pixels)) (entry-is i lt n)
+        ∙ ap (λ (k : ℕ). flipped (n .under) 8 8 (unpacked (z .mode) (z .depth) 8 8 (take (z .depth * 8) (drop (k * (z .depth * 8)) (tileBytes z pixels))))) (named-back (z .mode) (n .place))
         ∙ ap (flipped (n .under) 8 8) (tile-back (n .place) (n .inside))
         ∙ n .takes
 
@@ -145,8 +146,9 @@ module _ (z : Settings) (pixels : List ℕ) where
     names-one i lt =
         let n = named i lt in
         let count : length (tileBytes z pixels) / (z .depth * 8) ≡ length stored = ap (λ (l : ℕ). l / (z .depth * 8)) (tile-bytes-length z pixels picture) ∙ mul-div-cancel (length stored) (omega (arith, size .shallow)) in
-        let place : entryAt (z .mode) (mapBytes z pixels) i .tile ≡ n .place = ap (λ (e : Mapentry). e .tile) (entry-is i lt n) in
-        lt-leb (length (tileBytes z pixels) / (z .depth * 8)) (entryAt (z .mode) (mapBytes z pixels) i .tile) (omega (arith, n .inside))
+        let e = entryAt (z .mode) (mapBytes z pixels) i in
+        let place : tileNamed (z .mode) 8 8 e ≡ n .place = ap (tileNamed (z .mode) 8 8) (entry-is i lt n) ∙ named-back (z .mode) (n .place) in
+        lt-leb (length (tileBytes z pixels) / (z .depth * 8)) (tileNamed (z .mode) 8 8 e) (omega (arith, n .inside))
 
     pub redraw-accepted : (space : ℕ) → 64 * places z ≤ space → redrawSays (z .mode) (z .depth) (z .columns) (z .rows) (tileBytes z pixels) (mapBytes z pixels) space ≡ 0
     redraw-accepted space enough =

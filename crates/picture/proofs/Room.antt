@@ -9,6 +9,7 @@ use lib.Dec.{ltb, eqb}
 use lib.ListN.{length}
 use borrow.Author.Tests.{ltb-true, eqb-false}
 use Rattle.words.specs.Answers.{_when_, firstApplying}
+use Rattle.words.proofs.Answers.{last-given}
 use Rattle.mode.specs.Table.{row, hasDepth, pce-sprite}
 use Rattle.mapentry.specs.Entry.{misfitOf, misfitSays}
 use Rattle.mapentry.specs.declared.Misfit.{Misfit}
@@ -46,12 +47,15 @@ misfit-not Flip = eqb-false (misfitSays Flip) 12 refl
 misfit-not Priority = eqb-false (misfitSays Priority) 12 refl
 misfit-not Nothing = eqb-false (misfitSays Nothing) 12 refl
 
-last-means : (room need n : ℕ) → (n ≡ 12 → ⊥) → firstApplying (n ∷ 12 when ltb room need ∷ []) ≡ 12 → (n ≡ 0) × (room < need)
-last-means room need zero h e = (refl, case (ltb room need) refl e)
+pub above : (room need : ℕ) → 12 when ltb room need ≡ 12 → room < need
+above room need e = case (ltb room need) refl e
   where
-    case : (b : Bool) → ltb room need ≡ b → firstApplying (12 when b ∷ []) ≡ 12 → room < need
+    case : (b : Bool) → ltb room need ≡ b → 12 when b ≡ 12 → room < need
     case true q e = ltb-true room need q
     case false q e = let no : ⊥ = omega arith in absurd no
+
+last-means : (room need n : ℕ) → (n ≡ 12 → ⊥) → firstApplying (n ∷ 12 when ltb room need ∷ []) ≡ 12 → (n ≡ 0) × (room < need)
+last-means room need zero h e = (refl, above room need (last-given (12 when ltb room need) ∙ e))
 last-means room need (suc n) h e = absurd (h e)
 
 module _ (z : Settings) (pixels : List ℕ) (tileSpace mapSpace : ℕ) where
@@ -59,14 +63,14 @@ module _ (z : Settings) (pixels : List ℕ) (tileSpace mapSpace : ℕ) where
   unfolding askedSays
   asked-not =
       first-not (askedChecks z (length pixels) mapSpace) (when-not 1 (ltb 15 (z .mode)) refl
-        also when-not 2 (eqb (z .mode) pce-sprite) refl
-        also when-not 3 (not (hasDepth (z .mode) (z .depth))) refl
-        also when-not 4 (not (isSpan (z .columns) && isSpan (z .rows))) refl
-        also when-not 5 (z .flip && eqb (row (z .mode) .flips) 0) refl
-        also when-not 7 (not (eqb (length pixels) (64 * places z))) refl
-        also misfit-not (misfitOf (z .mode) (entryAs 0 (z .palette) false false))
-        also when-not 11 (ltb mapSpace (places z * row (z .mode) .entry)) refl
-        also tt)
+      also when-not 2 (eqb (z .mode) pce-sprite) refl
+      also when-not 3 (not (hasDepth (z .mode) (z .depth))) refl
+      also when-not 4 (not (isSpan (z .columns) && isSpan (z .rows))) refl
+      also when-not 5 (z .flip && eqb (row (z .mode) .flips) 0) refl
+      also when-not 7 (not (eqb (length pixels) (64 * places z))) refl
+      also misfit-not (misfitOf (z .mode) (entryAs 0 (z .palette) false false))
+      also when-not 11 (ltb mapSpace (places z * row (z .mode) .entry)) refl
+      also tt)
 
   pub convert-full : convertSays z pixels tileSpace mapSpace ≡ 12 → (askedSays z (length pixels) mapSpace ≡ 0) × (pictureRoom z tileSpace < needOf z pixels)
   convert-full e =

@@ -43,7 +43,7 @@ unfoldable pub foundAt : Settings → List ℕ → ℕ → Found
 foundAt z pixels i = lookUp (z .flip) 8 8 (storedOf z pixels) (getD (pictureTiles z pixels) i [])
 
 unfoldable pub mapBytes : Settings → List ℕ → List ℕ
-mapBytes z pixels = each (places z) (λ i. entryBytes (z .mode) (entryFor (z .palette) (foundAt z pixels i)))
+mapBytes z pixels = each (places z) (λ i. entryBytes (z .mode) (entryFor (z .mode) 8 8 (z .palette) (foundAt z pixels i)))
 
 -- "Room is the least of the limit if not 0, 2^(tile bits), and whole tiles in the tile buffer", of so many bytes.
 unfoldable pub pictureRoom : Settings → ℕ → ℕ

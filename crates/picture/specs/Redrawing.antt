@@ -14,6 +14,7 @@ use Rattle.mapentry.specs.declared.Mapentry.{Mapentry}
 use Rattle.tile.specs.Tile.{unpacked}
 use Rattle.flip.specs.Flips.{flip, flipped}
 use Rattle.picture.specs.Cells.{tileOver, placeOver}
+use Rattle.picture.specs.Entries.{tileNamed}
 use Rattle.picture.specs.Converting.{sizeChecks}
 
 -- Entry i of a map.
@@ -23,7 +24,7 @@ entryAt m map i = entryOf m (take (row m .entry) (drop (i * row m .entry) map))
 -- The tile that an entry draws.
 unfoldable pub drawnTile : ℕ → ℕ → List ℕ → Mapentry → List ℕ
 drawnTile m d tiles e =
-    flipped (flip (e .«flip_h») (e .«flip_v»)) 8 8 (unpacked m d 8 8 (take (d * 8) (drop (e .tile * (d * 8)) tiles)))
+    flipped (flip (e .«flip_h») (e .«flip_v»)) 8 8 (unpacked m d 8 8 (take (d * 8) (drop (tileNamed m 8 8 e * (d * 8)) tiles)))
 
 -- Every pixel of a picture of so many tiles, w wide and h high, from the tile it stands in.
 abbrev pub laid : ℕ → ℕ → ℕ → ℕ → (ℕ → List ℕ) → List ℕ
@@ -34,7 +35,7 @@ drawn m d columns rows tiles map = laid 8 8 columns (columns * rows) (λ i. draw
 
 -- "Input length not the one required; in redrawing also tile bytes that end before a tile the map names" (7).
 abbrev pub namesMore : ℕ → ℕ → ℕ → List ℕ → ℕ → Bool
-namesMore m d len map i = leb (len / (d * 8)) (entryAt m map i .tile)
+namesMore m d len map i = leb (len / (d * 8)) (tileNamed m 8 8 (entryAt m map i))
 
 abbrev pub redrawChecks : ℕ → ℕ → ℕ → ℕ → List ℕ → List ℕ → ℕ → List ℕ
 redrawChecks m d columns rows tiles map space =

@@ -1,30 +1,24 @@
 -- The pixels before x are put.
-use mathlib.Core.Path.{_≡_, sym, ap, _∙_}
+use mathlib.Core.Path.{ap, _∙_}
 use mathlib.Core.List.{[], _∷_}
-use Prim.Native.Nat.{ℕ, _+_, _-_, _%_, _^_}
+use Prim.Native.Nat.{ℕ, _≤_, _+_, _-_, _%_, _^_}
 use native.Mathlib.Nat.{mod-le}
 use native.Mathlib.Omega.{arith}
-use lib.ListN.{length, getD}
+use lib.ListN.{getD}
 use denote.Ref.{now}
-use Rattle.words.specs.Loops.{each}
-use Rattle.index.proofs.Putting.{Putting, put-none, put-more, put-all}
-use Rattle.picture.proofs.Cells.{length-ones, number-at}
+use Rattle.words.proofs.Filling.{Filled, filled-none, filled-one, filled-all}
 use borrow.Author.Needs.{needs}
 use Rattle.picture.proofs.put_eight.Statement.{statement}
 use Rattle.picture.proofs.put_eight.Tie as tie
 
 abbrev Inv-loop : tie.InvT-loop
-Inv-loop depth pixels from out₀ at x₀ out x = Putting out₀ at (each 8 (λ x. getD pixels (from + x) 0 % 2 ^ depth ∷ [])) x out
+Inv-loop depth pixels from out₀ at x₀ out x = (x ≤ 8) × Filled (λ x. getD pixels (from + x) 0 % 2 ^ depth ∷ []) out₀ at x out
 
 abbrev μ-loop : tie.MeasureT-loop
 μ-loop depth pixels from out₀ at x₀ out x = 8 - x
 
-module _ (c : tie.Start Inv-loop μ-loop) where
-  eight : length (each 8 (λ x. getD (now (c .args .pixels)) (c .args .from + x) 0 % 2 ^ c .args .depth ∷ [])) ≡ 8
-  eight = length-ones 8 (λ x. getD (now (c .args .pixels)) (c .args .from + x) 0 % 2 ^ c .args .depth)
-
 loop-holds : tie.Need-loop-holds Inv-loop μ-loop
-loop-holds c = put-none _ _ _
+loop-holds c = (omega arith, filled-none _ _ _)
 
 add-wide : tie.Need-add-wide Inv-loop μ-loop
 add-wide c = search needs
@@ -45,7 +39,7 @@ add-out : tie.Need-add-out Inv-loop μ-loop
 add-out c = search needs
 
 slice-write-out : tie.Need-slice-write-out Inv-loop μ-loop
-slice-write-out c = omega (arith, c .before .before .before .before .loop .inv .long, c .before .before .before .before .before .before .before .pre .2)
+slice-write-out c = let lp = c .before .before .before .before in omega (arith, lp .loop .inv .1 .long, lp .before .before .before .pre .2)
 
 add-x : tie.Need-add-x Inv-loop μ-loop
 add-x c = search needs
@@ -55,16 +49,15 @@ loop-less c = search needs
 
 loop-again : tie.Need-loop-again Inv-loop μ-loop
 loop-again c =
-    let s = c .before .before .before .before .before .before .before in
-    let lp = c .before .before .before .before .loop in
-    put-more (lp .inv) (omega (arith, eight s, s .pre .2)) (omega (arith, eight s))
-    (c .low .ensures ∙ ap (λ (k : ℕ). k % 2 ^ s .args .depth) (c .before .wide .ensures .0) ∙ sym (number-at 8 (λ x. getD (now (s .args .pixels)) (s .args .from + x) 0 % 2 ^ s .args .depth) (lp .x) (c .before .before .before .loop-test .taken)))
+    let lp = c .before .before .before .before in
+    let a = lp .before .before .before .args in
+    (omega arith, filled-one {g = λ x. getD (now (a .pixels)) (a .from + x) 0 % 2 ^ a .depth} (lp .loop .inv .1) (c .low .ensures ∙ ap (λ (k : ℕ). k % 2 ^ a .depth) (c .before .wide .ensures .0)))
 
 same-length : tie.Need-same-length Inv-loop μ-loop
-same-length c = search needs
+same-length c = c .before .loop .inv .1 .long
 
 returns : tie.Need-returns Inv-loop μ-loop
-returns c = put-all (c .before .loop .inv) (omega (arith, eight (c .before .before .before .before), c .before .before .before .before .pre .2)) (omega (arith, eight (c .before .before .before .before)))
+returns c = filled-all 8 (c .before .loop .inv .1) (omega arith)
 
 pub put-eight-spec : {M : Type 1} → statement M
 put-eight-spec =

@@ -1,27 +1,26 @@
 -- The pixels before i are put.
-use mathlib.Core.Path.{_≡_, sym, ap, _∙_}
-use Prim.Native.Nat.{ℕ, _-_}
+use mathlib.Core.Path.{sym, ap, _∙_}
+use mathlib.Core.List.{[], _∷_}
+use Prim.Native.Nat.{ℕ, _≤_, _-_}
 use native.Mathlib.Omega.{arith}
 use lib.ListN.{length, getD}
+use lib.Seq.{sets}
 use denote.Ref.{now}
 use Rattle.flip.specs.Flips.{flipped}
 use Rattle.flip.proofs.Group.{length-flipped, flipped-at}
-use Rattle.index.proofs.Putting.{Putting, put-none, put-more, put-all}
+use Rattle.words.proofs.Filling.{Filled, filled-none, filled-one, filled-all, each-of}
 use borrow.Author.Needs.{needs}
 use Rattle.picture.proofs.put_flipped.Statement.{statement}
 use Rattle.picture.proofs.put_flipped.Tie as tie
 
 abbrev Inv-loop : tie.InvT-loop
-Inv-loop tile f out₀ at i₀ out i = Putting out₀ at (flipped f 8 8 tile) i out
+Inv-loop tile f out₀ at i₀ out i = (i ≤ 64) × Filled (λ i. getD (flipped f 8 8 tile) i 0 ∷ []) out₀ at i out
 
 abbrev μ-loop : tie.MeasureT-loop
 μ-loop tile f out₀ at i₀ out i = 64 - i
 
-all : (c : tie.Start Inv-loop μ-loop) → length (flipped (c .args .f) 8 8 (now (c .args .tile))) ≡ 64
-all c = length-flipped (c .args .f) 8 8 (now (c .args .tile))
-
 loop-holds : tie.Need-loop-holds Inv-loop μ-loop
-loop-holds c = put-none _ _ _
+loop-holds c = (omega arith, filled-none _ _ _)
 
 flip-at-requires : tie.Need-flip-at-requires Inv-loop μ-loop
 flip-at-requires c κs = search needs
@@ -33,7 +32,7 @@ add-out : tie.Need-add-out Inv-loop μ-loop
 add-out c = search needs
 
 slice-write-out : tie.Need-slice-write-out Inv-loop μ-loop
-slice-write-out c = omega (arith, c .before .before .before .loop .inv .long, c .before .before .before .before .before .before .pre .1, c .before .before .loop-test .taken)
+slice-write-out c = omega (arith, c .before .before .before .loop .inv .1 .long, c .before .before .before .before .before .before .pre .1, c .before .before .loop-test .taken)
 
 add-i : tie.Need-add-i Inv-loop μ-loop
 add-i c = search needs
@@ -43,16 +42,19 @@ loop-less c = search needs
 
 loop-again : tie.Need-loop-again Inv-loop μ-loop
 loop-again c =
-    let s = c .before .before .before .before .before .before in
-    let lp = c .before .before .before .loop in
-    put-more (lp .inv) (omega (arith, all s, s .pre .1)) (omega (arith, all s, c .before .before .loop-test .taken))
-    (ap (λ (k : ℕ). getD (now (s .args .tile)) k 0) (c .before .flip-at .ensures .0) ∙ sym (flipped-at (s .args .f) 8 8 (now (s .args .tile)) (lp .i) (c .before .before .loop-test .taken)))
+    let lp = c .before .before .before in
+    let a = lp .before .before .before .args in
+    let at = flipped-at (a .f) 8 8 (now (a .tile)) (lp .loop .i) (c .before .before .loop-test .taken) in
+    (omega arith, filled-one {g = λ i. getD (flipped (a .f) 8 8 (now (a .tile))) i 0} (lp .loop .inv .1) (ap (λ (k : ℕ). getD (now (a .tile)) k 0) (c .before .flip-at .ensures .0) ∙ sym at))
 
 same-length : tie.Need-same-length Inv-loop μ-loop
-same-length c = c .before .loop .inv .long
+same-length c = c .before .loop .inv .1 .long
 
 returns : tie.Need-returns Inv-loop μ-loop
-returns c = put-all (c .before .loop .inv) (omega (arith, all (c .before .before .before .before), c .before .before .before .before .pre .1)) (omega (arith, all (c .before .before .before .before), c .loop-test .left))
+returns c =
+    let a = c .before .before .before .before .args in
+    let t = flipped (a .f) 8 8 (now (a .tile)) in
+    filled-all (length t) (c .before .loop .inv .1) (omega (arith, length-flipped (a .f) 8 8 (now (a .tile)))) ∙ ap (sets (now (a .out)) (a .at)) (each-of t)
 
 pub put-flipped-spec : {M : Type 1} → statement M
 put-flipped-spec =

@@ -8,19 +8,20 @@ use lib.Seq.{sets}
 use denote.Ref.{now}
 use Rattle.words.specs.Loops.{each}
 use Rattle.picture.proofs.Cells.{length-ones}
-use Rattle.picture.proofs.Drawing.{Spreading, spread-none, spread-more, spread-all, row-whole}
+use Rattle.words.proofs.Filling.{Filled, filled-none, filled-more, filled-all}
+use Rattle.picture.proofs.Drawing.{row-whole}
 use borrow.Author.Needs.{needs}
 use Rattle.picture.proofs.put_line.Statement.{statement}
 use Rattle.picture.proofs.put_line.Tie as tie
 
 abbrev Inv-loop : tie.InvT-loop
-Inv-loop strip columns y out₀ at x₀ out x = (x ≤ columns) × Spreading (λ x. each 8 (λ j. getD strip (x * 64 + y * 8 + j) 0 ∷ [])) out₀ at x out
+Inv-loop strip columns y out₀ at x₀ out x = (x ≤ columns) × Filled (λ x. each 8 (λ j. getD strip (x * 64 + y * 8 + j) 0 ∷ [])) out₀ at x out
 
 abbrev μ-loop : tie.MeasureT-loop
 μ-loop strip columns y out₀ at x₀ out x = columns - x
 
 loop-holds : tie.Need-loop-holds Inv-loop μ-loop
-loop-holds c = (omega arith, spread-none _ _ _)
+loop-holds c = (omega arith, filled-none _ _ _)
 
 mul-put-eight : tie.Need-mul-put-eight Inv-loop μ-loop
 mul-put-eight c = omega (arith, c .before .before .before .before .pre .1 .narrow)
@@ -54,7 +55,7 @@ loop-again c =
     let lp = c .before .before .before .before .before .loop in
     let strip = now (a .strip) in (
       omega arith,
-      spread-more 8 (λ x. length-ones 8 (λ j. getD strip (x * 64 + a .y * 8 + j) 0)) (lp .inv .1)
+      filled-more 8 (λ x. length-ones 8 (λ j. getD strip (x * 64 + a .y * 8 + j) 0)) (lp .inv .1)
           (c .before .before .put-eight .ensures ∙ ap (λ (l : List ℕ). sets (lp .out) (a .at + lp .x * 8) l) (row-whole strip (lp .x * 64 + a .y * 8) (λ i. omega (arith, c .before .before .before .before .before .before .before .shared-slice-known .given i)))),
     )
 
@@ -62,7 +63,7 @@ same-length : tie.Need-same-length Inv-loop μ-loop
 same-length c = c .before .loop .inv .1 .long
 
 returns : tie.Need-returns Inv-loop μ-loop
-returns c = spread-all (c .before .before .before .before .args .columns) (c .before .loop .inv .1) (omega arith)
+returns c = filled-all (c .before .before .before .before .args .columns) (c .before .loop .inv .1) (omega arith)
 
 pub put-line-spec : {M : Type 1} → statement M
 put-line-spec =

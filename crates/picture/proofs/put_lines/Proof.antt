@@ -4,19 +4,20 @@ use native.Mathlib.Omega.{arith}
 use denote.Ref.{now}
 use Rattle.words.proofs.Items.{item-inside}
 use Rattle.picture.specs.Inner.{pixelLine}
-use Rattle.picture.proofs.Drawing.{Spreading, spread-none, spread-more, spread-all, line-length}
+use Rattle.words.proofs.Filling.{Filled, filled-none, filled-more, filled-all}
+use Rattle.picture.proofs.Drawing.{line-length}
 use borrow.Author.Needs.{needs}
 use Rattle.picture.proofs.put_lines.Statement.{statement}
 use Rattle.picture.proofs.put_lines.Tie as tie
 
 abbrev Inv-loop : tie.InvT-loop
-Inv-loop strip columns out₀ at y₀ out y = (y ≤ 8) × Spreading (pixelLine strip columns) out₀ at y out
+Inv-loop strip columns out₀ at y₀ out y = (y ≤ 8) × Filled (pixelLine strip columns) out₀ at y out
 
 abbrev μ-loop : tie.MeasureT-loop
 μ-loop strip columns out₀ at y₀ out y = 8 - y
 
 loop-holds : tie.Need-loop-holds Inv-loop μ-loop
-loop-holds c = (omega arith, spread-none _ _ _)
+loop-holds c = (omega arith, filled-none _ _ _)
 
 mul-put-line : tie.Need-mul-put-line Inv-loop μ-loop
 mul-put-line c = omega (arith, c .before .before .before .before .before .pre .narrow)
@@ -45,13 +46,13 @@ loop-less : tie.Need-loop-less Inv-loop μ-loop
 loop-less c = search needs
 
 loop-again : tie.Need-loop-again Inv-loop μ-loop
-loop-again c = let a = c .before .before .before .before .before .before .before .before .args in (omega arith, spread-more (a .columns * 8) (line-length (now (a .strip)) (a .columns)) (c .before .before .before .before .before .loop .inv .1) (c .before .before .put-line .ensures))
+loop-again c = let a = c .before .before .before .before .before .before .before .before .args in (omega arith, filled-more (a .columns * 8) (line-length (now (a .strip)) (a .columns)) (c .before .before .before .before .before .loop .inv .1) (c .before .before .put-line .ensures))
 
 same-length : tie.Need-same-length Inv-loop μ-loop
 same-length c = c .before .loop .inv .1 .long
 
 returns : tie.Need-returns Inv-loop μ-loop
-returns c = spread-all 8 (c .before .loop .inv .1) (omega arith)
+returns c = filled-all 8 (c .before .loop .inv .1) (omega arith)
 
 pub put-lines-spec : {M : Type 1} → statement M
 put-lines-spec =
