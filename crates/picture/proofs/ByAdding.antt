@@ -33,7 +33,7 @@ use Rattle.picture.specs.Cells.{pixelAt, cutTile, cutTiles}
 use Rattle.picture.specs.Converting.{places, pictureTiles, storedOf, needOf, tileBytes, sizeSays}
 use Rattle.picture.specs.declared.Settings.{Settings}
 use Rattle.picture.proofs.Checks.{set-8, size-of, few-tiles}
-use Rattle.picture.proofs.Cells.{logical-8}
+use Rattle.picture.proofs.Cells.{logical-8, some-8}
 use Rattle.picture.proofs.Kept.{length-cutTile, kept-sizes}
 use Rattle.picture.proofs.Converted.{length-tiles, tile-is, stored-need}
 
@@ -110,12 +110,12 @@ module _ (m d : ℕ) (other : m ≡ pce-sprite → ⊥) (flips discarding : Bool
 
 -- ps are any tiles that are the picture's once they are cut
 module _ (z : Settings) (pixels : List ℕ) (size : sizeSays (z .mode) (z .depth) (z .columns) (z .rows) ≡ 0) (limit : ℕ) (store : List ℕ)
-    (ps : List (List ℕ)) (cut : map (cutTo (z .depth)) ps ≡ pictureTiles z pixels) where
+    (ps : List (List ℕ)) (cut : map (cutTo (z .depth)) ps ≡ pictureTiles 8 8 z pixels) where
   abbrev empty : Set
   empty = newSet (z .mode) (z .depth) 8 8 (z .flip) (z .discard) limit
 
   count-ps : length ps ≡ places z
-  count-ps = sym (length-map ps (cutTo (z .depth))) ∙ ap (λ (x : List (List ℕ)). length x) cut ∙ length-tiles z pixels
+  count-ps = sym (length-map ps (cutTo (z .depth))) ∙ ap (λ (x : List (List ℕ)). length x) cut ∙ length-tiles 8 8 some-8 z pixels
 
   cut-none : cutTo (z .depth) [] ≡ []
   unfolding cutTo
@@ -127,35 +127,35 @@ module _ (z : Settings) (pixels : List ℕ) (size : sizeSays (z .mode) (z .depth
       sym (length-cut (z .depth) (getD ps i []))
       ∙ ap (λ (x : List ℕ). length x) (sym (List·getD-map (cutTo (z .depth)) ps i []) ∙ ap (getD (map (cutTo (z .depth)) ps) i) cut-none)
       ∙ ap (λ (x : List (List ℕ)). length (getD x i [])) cut
-      ∙ ap (λ (x : List ℕ). length x) (tile-is z pixels i inside)
+      ∙ ap (λ (x : List ℕ). length x) (tile-is 8 8 some-8 z pixels i inside)
       ∙ length-cutTile (z .depth) 8 8 (z .columns) pixels i
 
-  kept-is : keptAfter empty store ps ≡ storedOf z pixels
+  kept-is : keptAfter empty store ps ≡ storedOf 8 8 z pixels
   unfolding tilesIn storedOf kept
   kept-is = ap (keepAll (z .discard) (z .flip) 8 8 []) cut
 
-  stored-sizes : Every (λ t. length t ≡ 64) (storedOf z pixels)
+  stored-sizes : Every (λ t. length t ≡ 64) (storedOf 8 8 z pixels)
   unfolding storedOf pictureTiles
   stored-sizes = kept-sizes (z .discard) (z .flip) (z .depth) 8 8 (z .columns) pixels (places z)
 
-  module _ (room : needOf z pixels ≤ roomIn empty (length store)) where
+  module _ (room : needOf 8 8 z pixels ≤ roomIn empty (length store)) where
     roomy : Roomy empty store ps
     roomy =
         let known = size-of (z .mode) (z .depth) (z .columns) (z .rows) size in
         record {
           says = set-8 (z .mode) (z .depth) (known .mode) (known .map) (known .depth);
           sizes = size-ps;
-          room = subst (λ (n : ℕ). n ≤ roomIn empty (length store)) (sym (ap (λ (x : List (List ℕ)). length x) kept-is ∙ stored-need z pixels)) room;
+          room = subst (λ (n : ℕ). n ≤ roomIn empty (length store)) (sym (ap (λ (x : List (List ℕ)). length x) kept-is ∙ stored-need 8 8 some-8 z pixels)) room;
           few = omega (arith, count-ps, few-tiles known);
         }
 
     pub tiles-accepted : accepted empty store ps ≡ places z
     tiles-accepted = all-added empty store ps roomy .0 ∙ count-ps
 
-    pub tiles-stored : setTiles (setAtEnd empty store ps) (storeAtEnd empty store ps) ≡ storedOf z pixels
+    pub tiles-stored : setTiles (setAtEnd empty store ps) (storeAtEnd empty store ps) ≡ storedOf 8 8 z pixels
     tiles-stored = all-added empty store ps roomy .1 ∙ kept-is
 
-    pub tiles-count : setAtEnd empty store ps .stored ≡ length (storedOf z pixels)
+    pub tiles-count : setAtEnd empty store ps .stored ≡ length (storedOf 8 8 z pixels)
     unfolding tilesIn
     tiles-count =
         let end = setAtEnd empty store ps in
@@ -173,5 +173,5 @@ module _ (z : Settings) (pixels : List ℕ) (size : sizeSays (z .mode) (z .depth
         let final = storeAtEnd empty store ps in
         sym
         (ap (λ (x : Set). setBytes x final) (settings-kept empty store ps)
-        ∙ bytes-8 (z .mode) (z .depth) (known .map) (z .flip) (z .discard) limit (end .stored) (end .discarded) final (storedOf z pixels)
+        ∙ bytes-8 (z .mode) (z .depth) (known .map) (z .flip) (z .discard) limit (end .stored) (end .discarded) final (storedOf 8 8 z pixels)
         (sym (ap (λ (x : Set). setTiles x final) (settings-kept empty store ps)) ∙ tiles-stored) stored-sizes)

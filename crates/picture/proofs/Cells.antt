@@ -33,7 +33,10 @@ pub filled-next : (k : ℕ) {f : ℕ → List ℕ} {out now then : List ℕ} {i 
     → Filled f out 0 (i + 1) then
 filled-next k {f} {now = now} {i = i} size h e = filled-more k size h (e ∙ ap (λ (n : ℕ). sets now n (f i)) (sym (zero-add (i * k))))
 
--- ---- "at 8x8 they agree": the native number of a tile, and back
+-- ---- "At 8x8 they agree": the native number of a tile, and back
+
+pub some-8 : 0 < 8
+some-8 = omega arith
 
 pub native-8 : (m n : ℕ) → firstCell m 8 8 n ≡ n
 unfolding startsAt

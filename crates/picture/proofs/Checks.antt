@@ -223,7 +223,7 @@ module _ (z : Settings) (pixels : List ℕ) (tileSpace mapSpace : ℕ) where
   asked = askedSays z (length pixels) mapSpace
 
   abbrev full : Bool
-  full = ltb (pictureRoom z tileSpace) (needOf z pixels)
+  full = ltb (pictureRoom z tileSpace) (needOf 8 8 z pixels)
 
   -- the room alone decides where no check before it gives a number
   pub convert-is : convertSays z pixels tileSpace mapSpace ≡ firstApplying (asked ∷ 12 when full ∷ [])
@@ -237,13 +237,13 @@ module _ (z : Settings) (pixels : List ℕ) (tileSpace mapSpace : ℕ) where
     pub to-room : convertSays z pixels tileSpace mapSpace ≡ 12 when full
     to-room = convert-is ∙ next-given (12 when full ∷ []) a ∙ sym (last-given (12 when full))
 
-    pub convert-12 : pictureRoom z tileSpace < needOf z pixels → 12 ≡ convertSays z pixels tileSpace mapSpace
-    convert-12 h = sym (to-room ∙ ap (λ (b : Bool). 12 when b) (lt-ltb (pictureRoom z tileSpace) (needOf z pixels) h))
+    pub convert-12 : pictureRoom z tileSpace < needOf 8 8 z pixels → 12 ≡ convertSays z pixels tileSpace mapSpace
+    convert-12 h = sym (to-room ∙ ap (λ (b : Bool). 12 when b) (lt-ltb (pictureRoom z tileSpace) (needOf 8 8 z pixels) h))
 
-    pub convert-0 : needOf z pixels ≤ pictureRoom z tileSpace → convertSays z pixels tileSpace mapSpace ≡ 0
-    convert-0 h = to-room ∙ ap (λ (b : Bool). 12 when b) (le-ltb (pictureRoom z tileSpace) (needOf z pixels) h)
+    pub convert-0 : needOf 8 8 z pixels ≤ pictureRoom z tileSpace → convertSays z pixels tileSpace mapSpace ≡ 0
+    convert-0 h = to-room ∙ ap (λ (b : Bool). 12 when b) (le-ltb (pictureRoom z tileSpace) (needOf 8 8 z pixels) h)
 
-  pub convert-passed : convertSays z pixels tileSpace mapSpace ≡ 0 → (asked ≡ 0) × (needOf z pixels ≤ pictureRoom z tileSpace)
+  pub convert-passed : convertSays z pixels tileSpace mapSpace ≡ 0 → (asked ≡ 0) × (needOf 8 8 z pixels ≤ pictureRoom z tileSpace)
   convert-passed e =
       let passed : (k : ℕ) → getD (asked ∷ 12 when full ∷ []) k 0 ≡ 0 = all-passed (asked ∷ 12 when full ∷ []) (sym convert-is ∙ e) in
-      (passed 0, ltb-false (pictureRoom z tileSpace) (needOf z pixels) (not-given 11 full (passed 1)))
+      (passed 0, ltb-false (pictureRoom z tileSpace) (needOf 8 8 z pixels) (not-given 11 full (passed 1)))

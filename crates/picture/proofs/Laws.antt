@@ -24,6 +24,7 @@ use Rattle.picture.specs.Redrawing.{drawn, redrawSays}
 use Rattle.picture.specs.Inner.{askedSays}
 use Rattle.picture.specs.declared.Settings.{Settings}
 use Rattle.picture.specs.declared.Picture.{Picture}
+use Rattle.picture.proofs.Cells.{some-8}
 use Rattle.picture.proofs.Checks.{convert-12, convert-0, convert-passed}
 use Rattle.tileset.proofs.Keeping.{kept-apart, none-discarded as off-none}
 use Rattle.picture.proofs.Converted.{found-taken, is-found, stored-need, stored-discarded}
@@ -54,43 +55,43 @@ pub bytes-fit : (z : Settings) (pixels : List ℕ) (tileSpace mapSpace : ℕ) �
     → (length (tileBytes z pixels) ≤ tileSpace) × (length (mapBytes z pixels) ≤ mapSpace)
 bytes-fit z pixels tileSpace mapSpace done = (tiles-fit z pixels tileSpace mapSpace done, map-fits z pixels tileSpace mapSpace done)
 
--- ---- what a picture stores, names and discards
+-- ---- what a picture stores, names and discards, whatever the size of its tiles
 
-module _ (z : Settings) (pixels : List ℕ) where
-  on-apart : (discard : Bool) → discard ≡ true → Apart (z .flip) 8 8 (kept discard (z .flip) 8 8 (pictureTiles z pixels))
+module _ (w h : ℕ) (some : 0 < w) (z : Settings) (pixels : List ℕ) where
+  on-apart : (discard : Bool) → discard ≡ true → Apart (z .flip) w h (kept discard (z .flip) w h (pictureTiles w h z pixels))
   on-apart discard on =
-      subst (λ (b : Bool). Apart (z .flip) 8 8 (kept b (z .flip) 8 8 (pictureTiles z pixels))) (sym on) (kept-apart (z .flip) 8 8 (pictureTiles z pixels))
+      subst (λ (b : Bool). Apart (z .flip) w h (kept b (z .flip) w h (pictureTiles w h z pixels))) (sym on) (kept-apart (z .flip) w h (pictureTiles w h z pixels))
 
   -- with discarding on, no two stored tiles match
-  pub no-two-match : z .discard ≡ true → Apart (z .flip) 8 8 (storedOf z pixels)
+  pub no-two-match : z .discard ≡ true → Apart (z .flip) w h (storedOf w h z pixels)
   unfolding storedOf
   no-two-match on = on-apart (z .discard) on
 
   -- every tile is found among those stored, so that its entry names one
-  pub all-named : (i : ℕ) → i < places z → isFound (foundAt z pixels i) ≡ true
-  all-named i lt = is-found z pixels i lt
+  pub all-named : (i : ℕ) → i < places z → isFound (foundAt w h z pixels i) ≡ true
+  all-named i lt = is-found w h some z pixels i lt
 
   -- "as by adding": an entry has the place and flip that a look-up finds right after its tile was taken
   pub named-when-taken : (i : ℕ) → i < places z
-      → foundAt z pixels i
-      ≡ lookUp (z .flip) 8 8 (kept (z .discard) (z .flip) 8 8 (cutTiles (z .depth) 8 8 (z .columns) pixels (suc i))) (cutTile (z .depth) 8 8 (z .columns) pixels i)
-  named-when-taken i lt = found-taken z pixels i lt
+      → foundAt w h z pixels i
+      ≡ lookUp (z .flip) w h (kept (z .discard) (z .flip) w h (cutTiles (z .depth) w h (z .columns) pixels (suc i))) (cutTile (z .depth) w h (z .columns) pixels i)
+  named-when-taken i lt = found-taken w h some z pixels i lt
 
   -- need, counted from the pixels alone, is the number of tiles stored
-  pub stored-needed : length (storedOf z pixels) ≡ needOf z pixels
-  stored-needed = stored-need z pixels
+  pub stored-needed : length (storedOf w h z pixels) ≡ needOf w h z pixels
+  stored-needed = stored-need w h some z pixels
 
   -- each tile is stored or discarded
-  pub all-counted : length (storedOf z pixels) + discardedOf z pixels ≡ places z
-  all-counted = stored-discarded z pixels
+  pub all-counted : length (storedOf w h z pixels) + discardedOf w h z pixels ≡ places z
+  all-counted = stored-discarded w h some z pixels
 
   -- with discarding off, none is discarded and all are stored
-  pub none-discarded : z .discard ≡ false → discardedOf z pixels ≡ 0
+  pub none-discarded : z .discard ≡ false → discardedOf w h z pixels ≡ 0
   unfolding discardedOf
   none-discarded off =
-      ap (λ (b : Bool). discarded b (z .flip) 8 8 (pictureTiles z pixels)) off ∙ off-none (z .flip) 8 8 (pictureTiles z pixels)
+      ap (λ (b : Bool). discarded b (z .flip) w h (pictureTiles w h z pixels)) off ∙ off-none (z .flip) w h (pictureTiles w h z pixels)
 
-  pub all-stored : z .discard ≡ false → length (storedOf z pixels) ≡ places z
+  pub all-stored : z .discard ≡ false → length (storedOf w h z pixels) ≡ places z
   all-stored off = omega (arith, all-counted, none-discarded off)
 
 -- ---- "no room for the tiles": 12 and 0 are given exactly when no earlier check applies and need is above room, or is not
@@ -100,13 +101,13 @@ module _ (z : Settings) (pixels : List ℕ) (tileSpace mapSpace : ℕ) where
   abbrev pub earlier : ℕ
   earlier = firstApplying (askedChecks z (length pixels) mapSpace)
 
-  pub refused-for-room : (convertSays z pixels tileSpace mapSpace ≡ 12 → (earlier ≡ 0) × (pictureRoom z tileSpace < needOf z pixels))
-      × (earlier ≡ 0 → pictureRoom z tileSpace < needOf z pixels → convertSays z pixels tileSpace mapSpace ≡ 12)
+  pub refused-for-room : (convertSays z pixels tileSpace mapSpace ≡ 12 → (earlier ≡ 0) × (pictureRoom z tileSpace < needOf 8 8 z pixels))
+      × (earlier ≡ 0 → pictureRoom z tileSpace < needOf 8 8 z pixels → convertSays z pixels tileSpace mapSpace ≡ 12)
   unfolding askedSays
   refused-for-room = (convert-full z pixels tileSpace mapSpace, λ a lt. sym (convert-12 z pixels tileSpace mapSpace a lt))
 
-  pub done-with-room : (convertSays z pixels tileSpace mapSpace ≡ 0 → (earlier ≡ 0) × (needOf z pixels ≤ pictureRoom z tileSpace))
-      × (earlier ≡ 0 → needOf z pixels ≤ pictureRoom z tileSpace → convertSays z pixels tileSpace mapSpace ≡ 0)
+  pub done-with-room : (convertSays z pixels tileSpace mapSpace ≡ 0 → (earlier ≡ 0) × (needOf 8 8 z pixels ≤ pictureRoom z tileSpace))
+      × (earlier ≡ 0 → needOf 8 8 z pixels ≤ pictureRoom z tileSpace → convertSays z pixels tileSpace mapSpace ≡ 0)
   unfolding askedSays
   done-with-room = (convert-passed z pixels tileSpace mapSpace, convert-0 z pixels tileSpace mapSpace)
 
@@ -150,18 +151,18 @@ module _ (z : Settings) (pixels tiles map : List ℕ) (r : Picture) (tilesAfter 
   pub counts : r .tiles + r .discarded ≡ places z
   counts =
       ap (λ (x : Picture). x .tiles + x .discarded) (done .0 .answer)
-      ∙ ap (λ (k : ℕ). unless k (length (storedOf z pixels)) 0 + unless k (discardedOf z pixels) 0) says-0
-      ∙ all-counted z pixels
+      ∙ ap (λ (k : ℕ). unless k (length (storedOf 8 8 z pixels)) 0 + unless k (discardedOf 8 8 z pixels) 0) says-0
+      ∙ all-counted 8 8 some-8 z pixels
 
-  -- "no two of its stored tiles match": with discarding on, the tiles that a caller unpacks from the written bytes
+  -- with discarding on, no two of the tiles that a caller unpacks from the written bytes match
   pub written-apart : z .discard ≡ true → Apart (z .flip) 8 8 (unpackedTiles z (take (r .«tile_bytes») tilesAfter) (r .tiles))
   written-apart on =
-      let count : r .tiles ≡ length (storedOf z pixels) = ap (λ (x : Picture). x .tiles) (done .0 .answer) ∙ ap (λ (k : ℕ). unless k (length (storedOf z pixels)) 0) says-0 in
+      let count : r .tiles ≡ length (storedOf 8 8 z pixels) = ap (λ (x : Picture). x .tiles) (done .0 .answer) ∙ ap (λ (k : ℕ). unless k (length (storedOf 8 8 z pixels)) 0) says-0 in
       subst (Apart (z .flip) 8 8)
       (sym (ap (unpackedTiles z (take (r .«tile_bytes») tilesAfter)) count
-      ∙ ap (λ (l : List ℕ). unpackedTiles z l (length (storedOf z pixels))) written-tiles
+      ∙ ap (λ (l : List ℕ). unpackedTiles z l (length (storedOf 8 8 z pixels))) written-tiles
       ∙ tiles-back z pixels (length tiles) (length map) says-0))
-      (no-two-match z pixels on)
+      (no-two-match 8 8 some-8 z pixels on)
 
 -- two conversions that left the same written bytes were of the same picture, cut to the depth
 pub alike-written : (z : Settings) (pixels tiles map : List ℕ) (r : Picture) (tilesAfter mapAfter : List ℕ) → Done z pixels tiles map r tilesAfter mapAfter
@@ -181,25 +182,25 @@ module _ (z : Settings) (pixels : List ℕ) (limit : ℕ) (store : List ℕ) (ps
   abbrev emptySet : Set
   emptySet = newSet (z .mode) (z .depth) 8 8 (z .flip) (z .discard) limit
 
-  module _ (size : sizeSays (z .mode) (z .depth) (z .columns) (z .rows) ≡ 0) (cut : map (cutTo (z .depth)) ps ≡ pictureTiles z pixels)
-      (room : needOf z pixels ≤ roomIn emptySet (length store)) where
+  module _ (size : sizeSays (z .mode) (z .depth) (z .columns) (z .rows) ≡ 0) (cut : map (cutTo (z .depth)) ps ≡ pictureTiles 8 8 z pixels)
+      (room : needOf 8 8 z pixels ≤ roomIn emptySet (length store)) where
     -- every add is answered 0
     pub adds-accepted : adds emptySet store ps ≡ places z
     adds-accepted = tiles-accepted z pixels size limit store ps cut room
 
     -- and the set is left with the tiles that the picture stores, and the number that it discards
-    pub adds-store : setTiles (setAtEnd emptySet store ps) (storeAtEnd emptySet store ps) ≡ storedOf z pixels
+    pub adds-store : setTiles (setAtEnd emptySet store ps) (storeAtEnd emptySet store ps) ≡ storedOf 8 8 z pixels
     adds-store = tiles-stored z pixels size limit store ps cut room
 
-    pub adds-discard : setAtEnd emptySet store ps .discarded ≡ discardedOf z pixels
-    adds-discard = omega (arith, tiles-sum z pixels size limit store ps cut room, tiles-count z pixels size limit store ps cut room, all-counted z pixels)
+    pub adds-discard : setAtEnd emptySet store ps .discarded ≡ discardedOf 8 8 z pixels
+    adds-discard = omega (arith, tiles-sum z pixels size limit store ps cut room, tiles-count z pixels size limit store ps cut room, all-counted 8 8 some-8 z pixels)
 
     -- and writing the set gives the picture's tile bytes
     pub adds-write : tileBytes z pixels ≡ setBytes (setAtEnd emptySet store ps) (storeAtEnd emptySet store ps)
     adds-write = tiles-bytes z pixels size limit store ps cut room
 
 -- the picture's tiles are such tiles
-pub tiles-cut-again : (z : Settings) (pixels : List ℕ) → map (cutTo (z .depth)) (pictureTiles z pixels) ≡ pictureTiles z pixels
+pub tiles-cut-again : (z : Settings) (pixels : List ℕ) → map (cutTo (z .depth)) (pictureTiles 8 8 z pixels) ≡ pictureTiles 8 8 z pixels
 unfolding pictureTiles
 tiles-cut-again z pixels = tiles-cut (z .depth) 8 8 (z .columns) pixels (places z)
 
@@ -217,8 +218,8 @@ module _ (z : Settings) (pixels tiles map : List ℕ) (r : Picture) (tilesAfter 
   answered = ap (λ (x : Picture). x .refusal) (p .answer)
 
   -- 12 is answered exactly when no check before the last refuses and the need is above the room
-  pub answers-12 : (r .refusal ≡ 12 → (before ≡ 0) × (pictureRoom z (length tiles) < needOf z pixels))
-      × (before ≡ 0 → pictureRoom z (length tiles) < needOf z pixels → r .refusal ≡ 12)
+  pub answers-12 : (r .refusal ≡ 12 → (before ≡ 0) × (pictureRoom z (length tiles) < needOf 8 8 z pixels))
+      × (before ≡ 0 → pictureRoom z (length tiles) < needOf 8 8 z pixels → r .refusal ≡ 12)
   answers-12 =
       let room = refused-for-room z pixels (length tiles) (length map) in
       (λ e. room .0 (sym answered ∙ e), λ passed above. answered ∙ room .1 passed above)

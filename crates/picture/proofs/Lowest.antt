@@ -38,7 +38,7 @@ convert-lowest z pixels tileSpace mapSpace =
     also gives-when 7 (not (eqb (length pixels) (64 * places z)))
     also misfit-gives (misfitOf (z .mode) (entryAs 0 (z .palette) false false))
     also gives-when 11 (ltb mapSpace (places z * row (z .mode) .entry))
-    also gives-when 12 (ltb (pictureRoom z tileSpace) (needOf z pixels))
+    also gives-when 12 (ltb (pictureRoom z tileSpace) (needOf 8 8 z pixels))
     also tt)
 
 pub redraw-lowest : (m d columns rows : ℕ) (tiles map : List ℕ) (space : ℕ) → redrawSays m d columns rows tiles map space ≡ lowest (redrawChecks m d columns rows tiles map space)

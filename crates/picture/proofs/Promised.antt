@@ -29,7 +29,7 @@ use Rattle.picture.specs.declared.Settings.{Settings}
 use Rattle.picture.specs.declared.Picture.{Picture}
 use Rattle.picture.specs.declared.Gathered.{Gathered}
 use Rattle.picture.specs.declared.Gathered.the-variants.{Count, NoRoom}
-use Rattle.picture.proofs.Cells.{native-8}
+use Rattle.picture.proofs.Cells.{native-8, some-8}
 use Rattle.picture.proofs.Room.{above}
 use Rattle.picture.proofs.Converted.{found-taken, stored-need, stored-discarded, found-fits, tile-bytes-length, map-bytes-length}
 
@@ -62,27 +62,29 @@ entry-back m palette Nothing = ap (λ (n : ℕ). entryAs n palette false false) 
 abbrev pub AllAs : Settings → List ℕ → ℕ → List ℕ → List ℕ → List ℕ → List ℕ → List ℕ → List ℕ → Gathered → Type 0
 AllAs z pixels room empty store keys heads next codes r = GatheredAs z pixels (tilesIn 64 empty 0) 0 (places z) room store keys heads next codes r
 
-all-kept : (z : Settings) (pixels empty : List ℕ) → keptTo z pixels (tilesIn 64 empty 0) 0 (places z) ≡ storedOf z pixels
+all-kept : (z : Settings) (pixels empty : List ℕ) → keptTo z pixels (tilesIn 64 empty 0) 0 (places z) ≡ storedOf 8 8 z pixels
 unfolding tilesIn kept storedOf pictureTiles
 all-kept z pixels empty = refl
 
-pub no-room : {z : Settings} {pixels : List ℕ} {room : ℕ} (empty : List ℕ) {store keys heads next codes : List ℕ} {r : Gathered} → AllAs z pixels room empty store keys heads next codes r → r ≡ NoRoom
-    → room < needOf z pixels
+pub no-room : {z : Settings} {pixels : List ℕ} {room : ℕ} (empty : List ℕ) {store keys heads next codes : List ℕ} {r : Gathered}
+    → AllAs z pixels room empty store keys heads next codes r → r ≡ NoRoom
+    → room < needOf 8 8 z pixels
 no-room {z} {pixels} {room} empty g e =
     omega (
       arith,
       above room (length (keptTo z pixels (tilesIn 64 empty 0) 0 (places z))) (sym (g .says) ∙ ap gatheredSays e),
       ap (λ (x : List (List ℕ)). length x) (all-kept z pixels empty),
-      stored-need z pixels,
+      stored-need 8 8 some-8 z pixels,
     )
 
 -- a store with the stored tiles, and the code of each tile's place among them
 pub record Counted (z : Settings) (pixels : List ℕ) (room : ℕ) (store codes : List ℕ) (count : ℕ) : Type 0 where
   pub within : count ≤ room
-  pub stored : tilesIn 64 store count ≡ storedOf z pixels
-  pub coded : (i : ℕ) → i < places z → getD codes i 0 ≡ codeOf (foundAt z pixels i)
+  pub stored : tilesIn 64 store count ≡ storedOf 8 8 z pixels
+  pub coded : (i : ℕ) → i < places z → getD codes i 0 ≡ codeOf (foundAt 8 8 z pixels i)
 
-pub counted : {z : Settings} {pixels : List ℕ} {room : ℕ} (empty : List ℕ) {store keys heads next codes : List ℕ} {r : Gathered} {count : ℕ} → AllAs z pixels room empty store keys heads next codes r
+pub counted : {z : Settings} {pixels : List ℕ} {room : ℕ} (empty : List ℕ) {store keys heads next codes : List ℕ} {r : Gathered} {count : ℕ}
+    → AllAs z pixels room empty store keys heads next codes r
     → r ≡ Count count → Counted z pixels room store codes count
 unfolding tilesIn kept
 counted {z} {pixels} {room} empty {store} {keys} {heads} {next} {codes} {r} {count} g e =
@@ -90,38 +92,38 @@ counted {z} {pixels} {room} empty {store} {keys} {heads} {next} {codes} {r} {cou
     record {
       within = w .values .within;
       stored = w .values .entered .is ∙ all-kept z pixels empty;
-      coded = λ i lt. w .values .coded i (omega arith) lt ∙ ap codeOf (sym (found-taken z pixels i lt));
+      coded = λ i lt. w .values .coded i (omega arith) lt ∙ ap codeOf (sym (found-taken 8 8 some-8 z pixels i lt));
     }
 
 -- ---- the bytes
 
 module _ {z : Settings} {pixels : List ℕ} {room : ℕ} {store codes : List ℕ} {count : ℕ} (g : Counted z pixels room store codes count) where
-  pub stored-count : length (storedOf z pixels) ≡ count
+  pub stored-count : length (storedOf 8 8 z pixels) ≡ count
   stored-count = ap length (sym (g .stored)) ∙ tiles-long 64 store count
 
   pub count-few : count ≤ places z
-  count-few = omega (arith, stored-count, stored-discarded z pixels)
+  count-few = omega (arith, stored-count, stored-discarded 8 8 some-8 z pixels)
 
-  stored-at : (k : ℕ) → k < count → take 64 (drop (k * 64) store) ≡ getD (storedOf z pixels) k []
+  stored-at : (k : ℕ) → k < count → take 64 (drop (k * 64) store) ≡ getD (storedOf 8 8 z pixels) k []
   stored-at k lt = sym (tiles-at 64 store count k lt) ∙ ap (λ (ts : List (List ℕ)). getD ts k []) (g .stored)
 
   tiles-written : each count (λ k. packed (z .mode) (z .depth) 8 8 (take 64 (drop (k * 64) store))) ≡ tileBytes z pixels
   unfolding tileBytes
   tiles-written =
-      each-eq count (λ k. packed (z .mode) (z .depth) 8 8 (take 64 (drop (k * 64) store))) (λ k. packed (z .mode) (z .depth) 8 8 (getD (storedOf z pixels) k []))
+      each-eq count (λ k. packed (z .mode) (z .depth) 8 8 (take 64 (drop (k * 64) store))) (λ k. packed (z .mode) (z .depth) 8 8 (getD (storedOf 8 8 z pixels) k []))
       (λ k lt. ap (packed (z .mode) (z .depth) 8 8) (stored-at k lt))
-      ∙ ap (λ (n : ℕ). each n (λ k. packed (z .mode) (z .depth) 8 8 (getD (storedOf z pixels) k []))) (sym stored-count)
+      ∙ ap (λ (n : ℕ). each n (λ k. packed (z .mode) (z .depth) 8 8 (getD (storedOf 8 8 z pixels) k []))) (sym stored-count)
 
   abbrev entry : ℕ → Mapentry
   entry i = entryCoded (z .mode) (z .palette) (getD codes i 0)
 
-  entry-at : (i : ℕ) → i < places z → entry i ≡ entryFor (z .mode) 8 8 (z .palette) (foundAt z pixels i)
-  entry-at i lt = ap (entryCoded (z .mode) (z .palette)) (g .coded i lt) ∙ entry-back (z .mode) (z .palette) (foundAt z pixels i)
+  entry-at : (i : ℕ) → i < places z → entry i ≡ entryFor (z .mode) 8 8 (z .palette) (foundAt 8 8 z pixels i)
+  entry-at i lt = ap (entryCoded (z .mode) (z .palette)) (g .coded i lt) ∙ entry-back (z .mode) (z .palette) (foundAt 8 8 z pixels i)
 
   map-written : each (places z) (λ i. entryBytes (z .mode) (entry i)) ≡ mapBytes z pixels
   unfolding mapBytes
   map-written =
-      each-eq (places z) (λ i. entryBytes (z .mode) (entry i)) (λ i. entryBytes (z .mode) (entryFor (z .mode) 8 8 (z .palette) (foundAt z pixels i)))
+      each-eq (places z) (λ i. entryBytes (z .mode) (entry i)) (λ i. entryBytes (z .mode) (entryFor (z .mode) 8 8 (z .palette) (foundAt 8 8 z pixels i)))
       (λ i lt. ap (entryBytes (z .mode)) (entry-at i lt))
 
   -- they can be put, where the checks passed
@@ -147,7 +149,7 @@ module _ {z : Settings} {pixels : List ℕ} {room : ℕ} {store codes : List ℕ
         → Converts k z pixels tiles map r tilesAfter mapAfter
     put-done {tiles} {map} {k = k} p e =
         let answer : pictured 0 count (places z - count) (count * (z .depth * 8)) (places z * row (z .mode) .entry) ≡ answerOf 0 z pixels =
-        pictured-eq (sym stored-count) (omega (arith, stored-count, stored-discarded z pixels))
+        pictured-eq (sym stored-count) (omega (arith, stored-count, stored-discarded 8 8 some-8 z pixels))
         (ap (λ (i : ℕ). i * (z .depth * 8)) (sym stored-count) ∙ sym (tile-bytes-length z pixels s)) (sym (map-bytes-length z pixels)) in
         record {
           answer = p .answer ∙ answer ∙ ap (λ (i : ℕ). answerOf i z pixels) (sym e);

@@ -13,6 +13,7 @@ use Rattle.words.specs.Loops.{some}
 use Rattle.words.proofs.Items.{item-at}
 use Rattle.mode.specs.Table.{row}
 use Rattle.mapentry.specs.Entry.{entryBytes, entryOf}
+use Rattle.mapentry.specs.declared.Mapentry.{Mapentry}
 use Rattle.mapentry.proofs.Trips.{entry-back}
 use Rattle.tile.specs.Tile.{packed, unpacked}
 use Rattle.tile.proofs.Laws.{pixels-back}
@@ -32,7 +33,7 @@ use Rattle.picture.specs.Redrawing.{entryAt, drawnTile, drawn, namesMore
 use Rattle.picture.specs.Inner.{askedSays, IsPicture}
 use Rattle.picture.specs.declared.Settings.{Settings}
 use Rattle.picture.proofs.Checks.{IsSize, tile-8, native-tile, size-passed, asked-sized, asked-picture, asked-map, room-named, room-bytes, convert-passed}
-use Rattle.picture.proofs.Cells.{named-back, number-at, cutTile-at, pixelAt-back, placeOver-lt, tileOver-lt}
+use Rattle.picture.proofs.Cells.{named-back, some-8, number-at, cutTile-at, pixelAt-back, placeOver-lt, tileOver-lt}
 use Rattle.tileset.proofs.Keeping.{look-told}
 use Rattle.picture.proofs.Kept.{kept-sizes, kept-small}
 use Rattle.picture.proofs.Converted.{packed-size, entry-size, tile-is, is-found, stored-need, found-fits, tile-bytes-length, map-bytes-length}
@@ -53,7 +54,26 @@ ext-in f (x ∷ xs) (y ∷ ys) e h = rw (h 0 (omega arith), ext-in f xs ys (suc-
 
 module _ (z : Settings) (pixels : List ℕ) where
   abbrev stored : List (List ℕ)
-  stored = storedOf z pixels
+  stored = storedOf 8 8 z pixels
+
+  -- a stored tile's bytes, a tile from bytes, and an entry of what was written
+  abbrev packedAt : ℕ → List ℕ
+  packedAt k = packed (z .mode) (z .depth) 8 8 (getD stored k [])
+
+  abbrev fromBytes : List ℕ → List ℕ
+  fromBytes bytes = unpacked (z .mode) (z .depth) 8 8 bytes
+
+  abbrev bytesAt : ℕ → List ℕ
+  bytesAt k = take (z .depth * 8) (drop (k * (z .depth * 8)) (tileBytes z pixels))
+
+  abbrev entry : ℕ → Mapentry
+  entry i = entryFor (z .mode) 8 8 (z .palette) (foundAt 8 8 z pixels i)
+
+  abbrev written : ℕ → Mapentry
+  written i = entryAt (z .mode) (mapBytes z pixels) i
+
+  abbrev redrawn : ℕ → List ℕ
+  redrawn i = drawnTile (z .mode) (z .depth) (tileBytes z pixels) (written i)
 
   abbrev tile : ℕ → List ℕ
   tile i = cutTile (z .depth) 8 8 (z .columns) pixels i
@@ -70,19 +90,19 @@ module _ (z : Settings) (pixels : List ℕ) where
   record Named (i : ℕ) : Type 0 where
     place : ℕ
     under : Flip
-    found : foundAt z pixels i ≡ At place under
+    found : foundAt 8 8 z pixels i ≡ At place under
     inside : place < length stored
     takes : flipped under 8 8 (getD stored place []) ≡ tile i
 
-  named-case : (i : ℕ) → i < places z → (r : Found) → foundAt z pixels i ≡ r → isFound r ≡ true → Named i
+  named-case : (i : ℕ) → i < places z → (r : Found) → foundAt 8 8 z pixels i ≡ r → isFound r ≡ true → Named i
   unfolding foundAt
   named-case i lt (At k f) e p =
-      let told = look-told (z .flip) 8 8 (tile i) stored (ap (lookUp (z .flip) 8 8 stored) (sym (tile-is z pixels i lt)) ∙ e) in
+      let told = look-told (z .flip) 8 8 (tile i) stored (ap (lookUp (z .flip) 8 8 stored) (sym (tile-is 8 8 some-8 z pixels i lt)) ∙ e) in
       record { place = k; under = f; found = e; inside = told .0; takes = told .1 .1 }
   named-case i lt Nothing e p = not-both p
 
   named : (i : ℕ) → i < places z → Named i
-  named i lt = named-case i lt (foundAt z pixels i) refl (is-found z pixels i lt)
+  named i lt = named-case i lt (foundAt 8 8 z pixels i) refl (is-found 8 8 some-8 z pixels i lt)
 
   -- ---- a picture that is not refused
 
@@ -97,7 +117,7 @@ module _ (z : Settings) (pixels : List ℕ) where
     picture = asked-picture z (length pixels) mapSpace asked
 
     room-for : length stored ≤ pictureRoom z tileSpace
-    room-for = omega (arith, stored-need z pixels, convert-passed z pixels tileSpace mapSpace done .1)
+    room-for = omega (arith, stored-need 8 8 some-8 z pixels, convert-passed z pixels tileSpace mapSpace done .1)
 
     -- both buffers hold the bytes
     pub tiles-fit : length (tileBytes z pixels) ≤ tileSpace
@@ -107,48 +127,45 @@ module _ (z : Settings) (pixels : List ℕ) where
     map-fits = omega (arith, map-bytes-length z pixels, asked-map z (length pixels) mapSpace asked)
 
     -- a stored tile's bytes, unpacked, are the tile
-    tile-back : (k : ℕ) → k < length stored → unpacked (z .mode) (z .depth) 8 8 (take (z .depth * 8) (drop (k * (z .depth * 8)) (tileBytes z pixels))) ≡ getD stored k []
+    tile-back : (k : ℕ) → k < length stored → fromBytes (bytesAt k) ≡ getD stored k []
     unfolding tileBytes
     tile-back k lt =
-        ap (unpacked (z .mode) (z .depth) 8 8)
-        (item-at (z .depth * 8) (λ k. packed (z .mode) (z .depth) 8 8 (getD stored k [])) (λ k. packed-size (native-tile (size .mode) (size .map) (size .depth)) (getD stored k [])) (length stored) k lt)
-        ∙ pixels-back (z .mode) (z .depth) 8 8 (tile-8 (z .mode) (z .depth) (size .mode) (size .map) (size .depth)) (getD stored k []) (stored-size k lt) (λ i l. stored-small k lt i)
+        ap fromBytes (item-at (z .depth * 8) packedAt (λ k. packed-size (native-tile (size .mode) (size .map) (size .depth)) (getD stored k [])) (length stored) k lt)
+        ∙ pixels-back (z .mode) (z .depth) 8 8 (tile-8 (z .mode) (z .depth) (size .mode) (size .map) (size .depth)) (getD stored k []) (stored-size k lt)
+        (λ i l. stored-small k lt i)
 
     -- so the tiles unpacked from all bytes are those stored
-    pub tiles-back : map (unpacked (z .mode) (z .depth) 8 8) (tilesIn (z .depth * 8) (tileBytes z pixels) (length stored)) ≡ stored
+    pub tiles-back : map fromBytes (tilesIn (z .depth * 8) (tileBytes z pixels) (length stored)) ≡ stored
     tiles-back =
         let parts = tilesIn (z .depth * 8) (tileBytes z pixels) (length stored) in
-        let count : length (map (unpacked (z .mode) (z .depth) 8 8) parts) ≡ length stored = length-map parts (unpacked (z .mode) (z .depth) 8 8) ∙ tiles-long (z .depth * 8) (tileBytes z pixels) (length stored) in
-        ext-in (unpacked (z .mode) (z .depth) 8 8) parts stored count
-        (λ k lt. ap (unpacked (z .mode) (z .depth) 8 8) (tiles-at (z .depth * 8) (tileBytes z pixels) (length stored) k lt) ∙ tile-back k lt)
+        ext-in fromBytes parts stored (length-map parts fromBytes ∙ tiles-long (z .depth * 8) (tileBytes z pixels) (length stored))
+        (λ k lt. ap fromBytes (tiles-at (z .depth * 8) (tileBytes z pixels) (length stored) k lt) ∙ tile-back k lt)
 
     -- the entry that is read back
-    entry-is : (i : ℕ) → i < places z → (n : Named i) → entryAt (z .mode) (mapBytes z pixels) i ≡ entryAs (firstCell (z .mode) 8 8 (n .place)) (z .palette) (n .under .h) (n .under .v)
+    entry-is : (i : ℕ) → i < places z → (n : Named i) → written i ≡ entryAs (firstCell (z .mode) 8 8 (n .place)) (z .palette) (n .under .h) (n .under .v)
     unfolding entryAt mapBytes
     entry-is i lt n =
-        ap (entryOf (z .mode))
-        (item-at (row (z .mode) .entry) (λ i. entryBytes (z .mode) (entryFor (z .mode) 8 8 (z .palette) (foundAt z pixels i)))
-        (λ i. entry-size (z .mode) (entryFor (z .mode) 8 8 (z .palette) (foundAt z pixels i))) (places z) i lt)
-        ∙ entry-back (z .mode) (size .mode) (entryFor (z .mode) 8 8 (z .palette) (foundAt z pixels i)) (found-fits z pixels picture (le-trans room-for (room-named z tileSpace)) i)
+        ap (entryOf (z .mode)) (item-at (row (z .mode) .entry) (λ i. entryBytes (z .mode) (entry i)) (λ i. entry-size (z .mode) (entry i)) (places z) i lt)
+        ∙ entry-back (z .mode) (size .mode) (entry i) (found-fits z pixels picture (le-trans room-for (room-named z tileSpace)) i)
         ∙ ap (entryFor (z .mode) 8 8 (z .palette)) (n .found)
 
     -- the tile that it draws
-    drawn-tile : (i : ℕ) → i < places z → drawnTile (z .mode) (z .depth) (tileBytes z pixels) (entryAt (z .mode) (mapBytes z pixels) i) ≡ tile i
+    drawn-tile : (i : ℕ) → i < places z → redrawn i ≡ tile i
     unfolding drawnTile
     drawn-tile i lt =
         let n = named i lt in
         ap (drawnTile (z .mode) (z .depth) (tileBytes z pixels)) (entry-is i lt n)
-        ∙ ap (λ (k : ℕ). flipped (n .under) 8 8 (unpacked (z .mode) (z .depth) 8 8 (take (z .depth * 8) (drop (k * (z .depth * 8)) (tileBytes z pixels))))) (named-back (z .mode) (n .place))
+        ∙ ap (λ (k : ℕ). flipped (n .under) 8 8 (fromBytes (bytesAt k))) (named-back (z .mode) (n .place))
         ∙ ap (flipped (n .under) 8 8) (tile-back (n .place) (n .inside))
         ∙ n .takes
 
     names-one : (i : ℕ) → i < places z → namesMore (z .mode) (z .depth) (length (tileBytes z pixels)) (mapBytes z pixels) i ≡ false
     names-one i lt =
         let n = named i lt in
-        let count : length (tileBytes z pixels) / (z .depth * 8) ≡ length stored = ap (λ (l : ℕ). l / (z .depth * 8)) (tile-bytes-length z pixels picture) ∙ mul-div-cancel (length stored) (omega (arith, size .shallow)) in
-        let e = entryAt (z .mode) (mapBytes z pixels) i in
-        let place : tileNamed (z .mode) 8 8 e ≡ n .place = ap (tileNamed (z .mode) 8 8) (entry-is i lt n) ∙ named-back (z .mode) (n .place) in
-        lt-leb (length (tileBytes z pixels) / (z .depth * 8)) (tileNamed (z .mode) 8 8 e) (omega (arith, n .inside))
+        let count : length (tileBytes z pixels) / (z .depth * 8) ≡ length stored =
+        ap (λ (l : ℕ). l / (z .depth * 8)) (tile-bytes-length z pixels picture) ∙ mul-div-cancel (length stored) (omega (arith, size .shallow)) in
+        let place : tileNamed (z .mode) 8 8 (written i) ≡ n .place = ap (tileNamed (z .mode) 8 8) (entry-is i lt n) ∙ named-back (z .mode) (n .place) in
+        lt-leb (length (tileBytes z pixels) / (z .depth * 8)) (tileNamed (z .mode) 8 8 (written i)) (omega (arith, n .inside))
 
     pub redraw-accepted : (space : ℕ) → 64 * places z ≤ space → redrawSays (z .mode) (z .depth) (z .columns) (z .rows) (tileBytes z pixels) (mapBytes z pixels) space ≡ 0
     redraw-accepted space enough =
@@ -161,9 +178,10 @@ module _ (z : Settings) (pixels : List ℕ) where
         enough)
 
     -- a pixel that is drawn is the picture's, cut to the depth
-    pixel-is : (o : ℕ) → o < 64 * places z
-        → getD (drawnTile (z .mode) (z .depth) (tileBytes z pixels) (entryAt (z .mode) (mapBytes z pixels) (tileOver 8 8 (z .columns) o))) (placeOver 8 8 (z .columns) o) 0
-        ≡ getD (cutTo (z .depth) pixels) o 0
+    abbrev pixel : ℕ → ℕ
+    pixel o = getD (redrawn (tileOver 8 8 (z .columns) o)) (placeOver 8 8 (z .columns) o) 0
+
+    pixel-is : (o : ℕ) → o < 64 * places z → pixel o ≡ getD (cutTo (z .depth) pixels) o 0
     pixel-is o lt =
         let wide = size .some in
         let i = tileOver 8 8 (z .columns) o in
@@ -176,7 +194,6 @@ module _ (z : Settings) (pixels : List ℕ) where
     pub drawn-back : drawn (z .mode) (z .depth) (z .columns) (z .rows) (tileBytes z pixels) (mapBytes z pixels) ≡ cutTo (z .depth) pixels
     unfolding drawn
     drawn-back =
-        let pixel : ℕ → ℕ = λ o. getD (drawnTile (z .mode) (z .depth) (tileBytes z pixels) (entryAt (z .mode) (mapBytes z pixels) (tileOver 8 8 (z .columns) o))) (placeOver 8 8 (z .columns) o) 0 in
         let all = drawn (z .mode) (z .depth) (z .columns) (z .rows) (tileBytes z pixels) (mapBytes z pixels) in
         let len : length all ≡ 64 * places z = picture-length (z .mode) (z .depth) (z .columns) (tileBytes z pixels) (mapBytes z pixels) (z .rows) in
         ext-getD 0 all (cutTo (z .depth) pixels) (len ∙ sym (length-cut (z .depth) pixels ∙ picture .whole))

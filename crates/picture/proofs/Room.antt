@@ -72,6 +72,6 @@ module _ (z : Settings) (pixels : List ℕ) (tileSpace mapSpace : ℕ) where
       also when-not 11 (ltb mapSpace (places z * row (z .mode) .entry)) refl
       also tt)
 
-  pub convert-full : convertSays z pixels tileSpace mapSpace ≡ 12 → (askedSays z (length pixels) mapSpace ≡ 0) × (pictureRoom z tileSpace < needOf z pixels)
+  pub convert-full : convertSays z pixels tileSpace mapSpace ≡ 12 → (askedSays z (length pixels) mapSpace ≡ 0) × (pictureRoom z tileSpace < needOf 8 8 z pixels)
   convert-full e =
-      last-means (pictureRoom z tileSpace) (needOf z pixels) (askedSays z (length pixels) mapSpace) asked-not (sym (convert-is z pixels tileSpace mapSpace) ∙ e)
+      last-means (pictureRoom z tileSpace) (needOf 8 8 z pixels) (askedSays z (length pixels) mapSpace) asked-not (sym (convert-is z pixels tileSpace mapSpace) ∙ e)

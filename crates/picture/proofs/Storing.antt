@@ -38,44 +38,48 @@ module _ {on : Bool} {store keys heads next : List ℕ} {count room : ℕ} {t : 
   abbrev tiles : List (List ℕ)
   tiles = tilesIn 64 store count
 
+  abbrev longer : List (List ℕ)
+  longer = tiles ++ t ∷ []
+
   many : length tiles ≡ count
   many = tiles-long 64 store count
 
-  one-more : length (tiles ++ t ∷ []) ≡ count + 1
+  one-more : length longer ≡ count + 1
   one-more = omega (arith, many, length-append tiles (t ∷ []))
 
   -- it goes at the end, or there is no room
-  pub stored-none : (code : ℕ) (s k h n : List ℕ) → room ≤ count → TakenAs on (tiles ++ t ∷ []) room code s k h n NoRoom
-  stored-none code s k h n le = record { says = rw (lt-ltb room (length (tiles ++ t ∷ [])) (omega (arith, one-more))); values = tt }
+  pub stored-none : (code : ℕ) (s k h n : List ℕ) → room ≤ count → TakenAs on longer room code s k h n NoRoom
+  stored-none code s k h n le = record { says = rw (lt-ltb room (length longer) (omega (arith, one-more))); values = tt }
 
-  pub stored-last : {s k h n : List ℕ} (code : ℕ) → count < room → Entered on (tiles ++ t ∷ []) s k h n (count + 1) → TakenAs on (tiles ++ t ∷ []) room code s k h n (Kept (count + 1) code)
+  pub stored-last : {s k h n : List ℕ} (code : ℕ) → count < room → Entered on longer s k h n (count + 1) → TakenAs on longer room code s k h n (Kept (count + 1) code)
   stored-last code lt e =
       record {
-        says = rw (le-ltb room (length (tiles ++ t ∷ [])) (omega (arith, one-more)));
+        says = rw (le-ltb room (length longer) (omega (arith, one-more)));
         values = record { within = omega arith; entered = e; coded = refl };
       }
 
   -- over what is kept
-  as-kept : (discard : Bool) {s k h n : List ℕ} {r : Taken} {code : ℕ} → keep discard on 8 8 tiles t ≡ tiles ++ t ∷ [] → code ≡ codeOf (lookUp on 8 8 (keep discard on 8 8 tiles t) t)
-      → TakenAs on (tiles ++ t ∷ []) room code s k h n r → KeptAs discard on tiles t room s k h n r
+  as-kept : (discard : Bool) {s k h n : List ℕ} {r : Taken} {code : ℕ} → keep discard on 8 8 tiles t ≡ longer
+      → code ≡ codeOf (lookUp on 8 8 (keep discard on 8 8 tiles t) t)
+      → TakenAs on longer room code s k h n r → KeptAs discard on tiles t room s k h n r
   as-kept discard {s} {k} {h} {n} {r} {code} same coded taken =
       subst (λ (c : ℕ). TakenAs on (keep discard on 8 8 tiles t) room c s k h n r) coded
       (subst (λ (ts : List (List ℕ)). TakenAs on ts room code s k h n r) (sym same) taken)
 
   -- nothing was found
   pub keep-none : (discard : Bool) {s k h n : List ℕ} {r : Taken} {code : ℕ} → lookUp on 8 8 tiles t ≡ Nothing → code ≡ codeOf (At count (flip false false))
-      → TakenAs on (tiles ++ t ∷ []) room code s k h n r → KeptAs discard on tiles t room s k h n r
+      → TakenAs on longer room code s k h n r → KeptAs discard on tiles t room s k h n r
   keep-none discard e coded taken =
       let last = after-new discard on 8 8 (omega arith) tiles t (z .whole) e in
       as-kept discard (keep-new discard on 8 8 tiles t e) (coded ∙ ap (λ (i : ℕ). codeOf (At i (flip false false))) (sym many) ∙ ap codeOf (sym last)) taken
 
   -- a stored tile matches
   module _ (discard : Bool) {place : ℕ} {f : Flip} (e : lookUp on 8 8 tiles t ≡ At place f) where
-    keep-is : (b : Bool) → discard ≡ b → keep discard on 8 8 tiles t ≡ cond b tiles (tiles ++ t ∷ [])
+    keep-is : (b : Bool) → discard ≡ b → keep discard on 8 8 tiles t ≡ cond b tiles longer
     unfolding keep
     keep-is true d =
-        ap (λ (b : Bool). cond (b && isFound (lookUp on 8 8 tiles t)) tiles (tiles ++ t ∷ [])) d ∙ ap (λ (x : Found). cond (isFound x) tiles (tiles ++ t ∷ [])) e
-    keep-is false d = ap (λ (b : Bool). cond (b && isFound (lookUp on 8 8 tiles t)) tiles (tiles ++ t ∷ [])) d
+        ap (λ (b : Bool). cond (b && isFound (lookUp on 8 8 tiles t)) tiles longer) d ∙ ap (λ (x : Found). cond (isFound x) tiles longer) e
+    keep-is false d = ap (λ (b : Bool). cond (b && isFound (lookUp on 8 8 tiles t)) tiles longer) d
 
     coded-there : {code : ℕ} → code ≡ codeOf (At place f) → code ≡ codeOf (lookUp on 8 8 (keep discard on 8 8 tiles t) t)
     coded-there c = c ∙ ap codeOf (sym (after-found discard on 8 8 tiles t e))
@@ -95,7 +99,8 @@ module _ {on : Bool} {store keys heads next : List ℕ} {count room : ℕ} {t : 
           };
         }
 
-    pub keep-again : {s k h n : List ℕ} {r : Taken} {code : ℕ} → discard ≡ false → code ≡ codeOf (At place f) → TakenAs on (tiles ++ t ∷ []) room code s k h n r → KeptAs discard on tiles t room s k h n r
+    pub keep-again : {s k h n : List ℕ} {r : Taken} {code : ℕ} → discard ≡ false → code ≡ codeOf (At place f)
+        → TakenAs on longer room code s k h n r → KeptAs discard on tiles t room s k h n r
     keep-again d c taken = as-kept discard (keep-is false d) (coded-there c) taken
 
 -- ---- the tiles of a picture from first on, after those that are there already
@@ -182,7 +187,8 @@ pub empty-index : (on : Bool) (store keys next : List ℕ) → Indexed on (tiles
 unfolding tilesIn
 empty-index on store keys next = indexed-none on keys (replicate 4096 0) next (λ b lt. getD-replicate 4096 b 0 0 lt)
 
-pub gather-none : {z : Settings} {pixels : List ℕ} {first end count room : ℕ} {store keys heads next codes : List ℕ} → Gathers z pixels first end count room store keys heads next codes
+pub gather-none : {z : Settings} {pixels : List ℕ} {first end count room : ℕ} {store keys heads next codes : List ℕ}
+    → Gathers z pixels first end count room store keys heads next codes
     → Gathering z pixels (tilesIn 64 store count) first end room store keys heads next codes count first
 gather-none {z} {pixels} {first} {count = count} {store = store} {keys} {heads} {next} g =
     let none = after-none (z .discard) (z .flip) (z .depth) 8 8 (z .columns) pixels (tilesIn 64 store count) first in

@@ -86,13 +86,13 @@ pub record KeptWith (on : Bool) (tiles : List (List ℕ)) (room code : ℕ) (sto
   pub entered : Entered on tiles store keys heads next count
   pub coded : place ≡ code
 
-abbrev pub TakenWith : Bool → List (List ℕ) → ℕ → ℕ → List ℕ → List ℕ → List ℕ → List ℕ → Taken → Type 0
-TakenWith on tiles room code store keys heads next (Kept count place) = KeptWith on tiles room code store keys heads next count place
-TakenWith on tiles room code store keys heads next NoRoom = Unit {0}
+abbrev pub TakenValues : Bool → List (List ℕ) → ℕ → ℕ → List ℕ → List ℕ → List ℕ → List ℕ → Taken → Type 0
+TakenValues on tiles room code store keys heads next (Kept count place) = KeptWith on tiles room code store keys heads next count place
+TakenValues on tiles room code store keys heads next NoRoom = Unit {0}
 
 pub record TakenAs (on : Bool) (tiles : List (List ℕ)) (room code : ℕ) (store keys heads next : List ℕ) (r : Taken) : Type 0 where
   pub says : takenSays r ≡ 12 when ltb room (length tiles)
-  pub values : TakenWith on tiles room code store keys heads next r
+  pub values : TakenValues on tiles room code store keys heads next r
 
 -- One tile more after some: what is kept then, and how the tile is found in it.
 abbrev pub KeptAs : Bool → Bool → List (List ℕ) → List ℕ → ℕ → List ℕ → List ℕ → List ℕ → List ℕ → Taken → Type 0
@@ -165,7 +165,7 @@ pub record HasEntries (m count : ℕ) (map : List ℕ) : Type 0 where
   pub mode : m < 16
   pub some : 0 < row m .entry
   pub few : count ≤ 4096
-  pub space : count * row m .entry ≤ length map
+  pub inside : count * row m .entry ≤ length map
 
 -- An entry whose tile is there, to be drawn from place at of out on.
 pub record DrawsTile (m d : ℕ) (tiles : List ℕ) (e : Mapentry) (out : List ℕ) (at : ℕ) : Type 0 where

@@ -19,6 +19,7 @@ use Rattle.picture.specs.declared.Settings.{Settings}
 use Rattle.picture.specs.declared.Picture.{Picture}
 use Rattle.picture.specs.Converting.{needOf, storedOf, pictureRoom, tileBytes, mapBytes, convertSays, answerOf}
 use Rattle.picture.specs.Inner.{askedSays}
+use Rattle.picture.proofs.Cells.{some-8}
 use Rattle.picture.proofs.Checks.{asked-sized, asked-picture, asked-map, room-bytes, convert-asked, convert-12}
 use Rattle.picture.proofs.Converted.{stored-need, tile-bytes-length, map-bytes-length}
 use Rattle.sheet.specs.Keys.{keyOf, lineOf}
@@ -41,13 +42,13 @@ module _ (z : Settings) (pixels : List ℕ) (t m : ℕ) (done : convertSays z pi
   asked : askedSays z (length pixels) m ≡ 0
   asked = is-zero (askedSays z (length pixels) m) (λ h. h (convert-asked z pixels t m (askedSays z (length pixels) m) refl h ∙ done))
 
-  need-case : (b : Bool) → ltb (pictureRoom z t) (needOf z pixels) ≡ b → needOf z pixels ≤ pictureRoom z t
-  need-case true e = absurd (suc-ne-zero 11 (convert-12 z pixels t m asked (ltb-true (pictureRoom z t) (needOf z pixels) e) ∙ done))
-  need-case false e = ltb-false (pictureRoom z t) (needOf z pixels) e
+  need-case : (b : Bool) → ltb (pictureRoom z t) (needOf 8 8 z pixels) ≡ b → needOf 8 8 z pixels ≤ pictureRoom z t
+  need-case true e = absurd (suc-ne-zero 11 (convert-12 z pixels t m asked (ltb-true (pictureRoom z t) (needOf 8 8 z pixels) e) ∙ done))
+  need-case false e = ltb-false (pictureRoom z t) (needOf 8 8 z pixels) e
 
   tiles-fit : length (tileBytes z pixels) ≤ t
   tiles-fit =
-      let stored : length (storedOf z pixels) ≤ pictureRoom z t = omega (arith, stored-need z pixels, need-case (ltb (pictureRoom z t) (needOf z pixels)) refl) in
+      let stored : length (storedOf 8 8 z pixels) ≤ pictureRoom z t = omega (arith, stored-need 8 8 some-8 z pixels, need-case (ltb (pictureRoom z t) (needOf 8 8 z pixels)) refl) in
       omega (arith, tile-bytes-length z pixels (asked-picture z (length pixels) m asked), room-bytes z t (asked-sized z (length pixels) m asked .shallow) stored)
 
   map-fits : length (mapBytes z pixels) ≤ m

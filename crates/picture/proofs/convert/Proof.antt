@@ -4,8 +4,8 @@ use Prim.Native.Nat.{ℕ, _≤_}
 use native.Mathlib.Omega.{arith}
 use lib.ListN.{length, length-replicate}
 use denote.Ref.{now}
-use Rattle.picture.specs.Converting.{pictureRoom}
 use Rattle.picture.specs.Inner.{askedSays, IsPicture}
+use Rattle.picture.proofs.Cells.{some-8}
 use Rattle.picture.proofs.Checks.{IsSize, few-tiles, asked-sized, asked-picture, asked-map, room-named, room-most, room-bytes, convert-asked, convert-12, convert-0}
 use Rattle.picture.proofs.Converted.{stored-need}
 use Rattle.picture.proofs.Storing.{empty-index}
@@ -106,7 +106,8 @@ returns-3 c =
     let a = begun r .args in
     let g = counted _ (p .before .before .before .before .before .before .before .gather .ensures) (p .before .before .before .before .before .count .given .1) in
     put-done g (picture (r .before)) (few-tiles (sized (r .before))) (c .before .before .before .before .put-picture .ensures)
-    (convert-0 (a .settings) (now (a .pixels)) (length (now (a .tiles))) (length (now (a .map))) (none (r .before)) (omega (arith, stored-need (a .settings) (now (a .pixels)), stored-count g, g .within, r .picture-room .ensures)))
+    (convert-0 (a .settings) (now (a .pixels)) (length (now (a .tiles))) (length (now (a .map))) (none (r .before))
+    (omega (arith, stored-need 8 8 some-8 (a .settings) (now (a .pixels)), stored-count g, g .within, r .picture-room .ensures)))
 
 pub convert-spec : {M : Type 1} → statement M
 convert-spec =

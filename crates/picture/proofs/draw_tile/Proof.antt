@@ -65,7 +65,8 @@ returns c =
     let n = c .before .before .before .before .before .before .before .before .before in
     let a = start n .args in
     let tiles = now (a .tiles) in
-    let pixels = unpacked-whole (n .before .packing-of .ensures) (tiled (start n)) tiles _ _ (n .tile-named .result .0 * (a .depth * 8)) refl (c .before .before .before .before .before .before .put-pixels .ensures) in
+    let from = n .tile-named .result .0 * (a .depth * 8) in
+    let pixels = unpacked-whole (n .before .packing-of .ensures) (tiled (start n)) tiles _ _ from refl (c .before .before .before .before .before .before .put-pixels .ensures) in
     drawn-is (a .mode) (a .depth) tiles (a .e) _ _ (a .at) (c .before .before .put-flipped .ensures)
     (pixels ∙ ap (λ (k : ℕ). unpacked (a .mode) (a .depth) 8 8 (take (a .depth * 8) (drop (k * (a .depth * 8)) tiles))) (n .tile-named .ensures))
 

@@ -1,10 +1,11 @@
 -- No entry before i names such a tile.
-use mathlib.Core.Path.{_≡_, refl, sym, ap, _∙_}
+use mathlib.Core.Path.{_≡_, refl, sym, ap, _∙_, subst}
 use mathlib.Core.Bool.{false}
-use Prim.Native.Nat.{ℕ, _≤_, _-_}
+use Prim.Native.Nat.{ℕ, _≤_, _-_, _+_, _*_}
 use native.Mathlib.Numerals.{add-one}
 use native.Mathlib.Omega.{arith}
 use lib.Dec.{leb}
+use lib.ListN.{length}
 use denote.Ref.{now}
 use borrow.Author.Tests.{le-leb, lt-leb}
 use Rattle.words.specs.Loops.{some}
@@ -24,6 +25,15 @@ Inv-loop mode map count tiles m size i₀ i = (i ≤ count) × (some i (λ i. le
 abbrev μ-loop : tie.MeasureT-loop
 μ-loop mode map count tiles m size i₀ i = count - i
 
+-- the entry is in the map
+entry-inside : (c : tie.In-loop Inv-loop μ-loop) → let a = c .before .before .before .before .args in
+    c .before .loop .i * c .before .before .mapentry-size .result + row (a .mode) .entry ≤ length (now (a .map))
+entry-inside c =
+    let s = c .before .before .before .before in
+    let k = row (s .args .mode) .entry in
+    subst (λ (n : ℕ). c .before .loop .i * n + k ≤ length (now (s .args .map))) (sym (c .before .before .mapentry-size .ensures))
+    (omega (arith, item-inside k (s .args .count) (c .before .loop .i) (c .loop-test .taken), s .pre .inside))
+
 -- the tile that an entry names
 module _ (c : tie.After-tile-named Inv-loop μ-loop) where
   abbrev turn : tie.In-loop Inv-loop μ-loop
@@ -41,7 +51,8 @@ module _ (c : tie.After-tile-named Inv-loop μ-loop) where
   named-is : c .tile-named .result .0 ≡ named at
   named-is =
       let size = turn .before .before .mapentry-size in
-      c .tile-named .ensures ∙ ap (tileNamed (start .args .mode) 8 8) (entry-read (start .args .mode) at (size .result) (now (start .args .map)) (c .before .get-entry .ensures) (size .ensures))
+      let read = entry-read (start .args .mode) at (size .result) (now (start .args .map)) (c .before .get-entry .ensures) (size .ensures) in
+      c .tile-named .ensures ∙ ap (tileNamed (start .args .mode) 8 8) read
 
 mapentry-size-requires : tie.Need-mapentry-size-requires Inv-loop μ-loop
 mapentry-size-requires c κs = c .before .pre .mode
@@ -50,14 +61,10 @@ loop-holds : tie.Need-loop-holds Inv-loop μ-loop
 loop-holds c = (omega arith, refl)
 
 mul-get-entry : tie.Need-mul-get-entry Inv-loop μ-loop
-mul-get-entry c =
-    let s = c .before .before .before .before in
-    rw (c .before .before .mapentry-size .ensures) (omega (arith, item-inside (row (s .args .mode) .entry) (s .args .count) (c .before .loop .i) (c .loop-test .taken), s .pre .space))
+mul-get-entry c = omega (arith, entry-inside c)
 
 get-entry-requires : tie.Need-get-entry-requires Inv-loop μ-loop
-get-entry-requires c κs =
-    let s = c .before .before .before .before in
-    (s .pre .mode, s .pre .some, rw (c .before .before .mapentry-size .ensures) (omega (arith, item-inside (row (s .args .mode) .entry) (s .args .count) (c .before .loop .i) (c .loop-test .taken), s .pre .space)))
+get-entry-requires c κs = let s = c .before .before .before .before in (s .pre .mode, s .pre .some, entry-inside c)
 
 tile-named-requires : tie.Need-tile-named-requires Inv-loop μ-loop
 tile-named-requires c κs = search needs

@@ -51,12 +51,13 @@ loop-less c = search needs
 
 loop-again : tie.Need-loop-again Inv-loop μ-loop
 loop-again c =
-    let a = c .before .before .before .before .before .before .before .before .args in
-    let lp = c .before .before .before .before .before .loop in
-    let strip = now (a .strip) in (
+    let lp = c .before .before .before .before .before in
+    let a = lp .before .before .before .args in
+    let strip = now (a .strip) in
+    let bytes = row-whole strip (lp .loop .x * 64 + a .y * 8) (λ i. omega (arith, lp .before .before .shared-slice-known .given i)) in (
       omega arith,
-      filled-more 8 (λ x. length-ones 8 (λ j. getD strip (x * 64 + a .y * 8 + j) 0)) (lp .inv .1)
-          (c .before .before .put-eight .ensures ∙ ap (λ (l : List ℕ). sets (lp .out) (a .at + lp .x * 8) l) (row-whole strip (lp .x * 64 + a .y * 8) (λ i. omega (arith, c .before .before .before .before .before .before .before .shared-slice-known .given i)))),
+      filled-more 8 (λ x. length-ones 8 (λ j. getD strip (x * 64 + a .y * 8 + j) 0)) (lp .loop .inv .1)
+          (c .before .before .put-eight .ensures ∙ ap (λ (l : List ℕ). sets (lp .loop .out) (a .at + lp .loop .x * 8) l) bytes),
     )
 
 same-length : tie.Need-same-length Inv-loop μ-loop
