@@ -95,9 +95,11 @@ loop-again c =
     let a = start t .args in
     let lp = t .before .loop in
     let k = 8 * (a .columns * 8) in
-    let lines = lines-are (a .mode) (a .depth) (a .columns) (now (a .tiles)) (now (a .map)) (lp .strip) (strip d) (lp .y) (omega (arith, lp .inv .2, start t .pre .narrow)) (d .draw-strip .ensures) in (
+    let lines = lines-are (a .mode) (a .depth) (a .columns) (now (a .tiles)) (now (a .map))
+    (lp .strip) (strip d) (lp .y) (omega (arith, lp .inv .2, start t .pre .narrow)) (d .draw-strip .ensures) in (
       omega (arith, t .loop-test .taken),
-      filled-next k (row-length (a .mode) (a .depth) (a .columns) (now (a .tiles)) (now (a .map))) (lp .inv .1) (c .before .before .put-lines .ensures ∙ ap (λ (l : List ℕ). sets (lp .out) (lp .y * k) l) lines),
+      filled-next k (row-length (a .mode) (a .depth) (a .columns) (now (a .tiles)) (now (a .map))) (lp .inv .1)
+          (c .before .before .put-lines .ensures ∙ ap (λ (l : List ℕ). sets (lp .out) (lp .y * k) l) lines),
       still d,
     )
 

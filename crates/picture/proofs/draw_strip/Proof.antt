@@ -73,7 +73,8 @@ draw-tile-requires c κs =
       mode = s .pre .mode;
       map = s .pre .mapped;
       depth = s .pre .depth;
-      inside = subst (λ (e : Mapentry). tileNamed (a .mode) 8 8 e * (a .depth * 8) + a .depth * 8 ≤ length (now (a .tiles))) (sym (read (c .before))) (s .pre .named (t .before .loop .x) (t .loop-test .taken));
+      inside = subst (λ (e : Mapentry). tileNamed (a .mode) 8 8 e * (a .depth * 8) + a .depth * 8 ≤ length (now (a .tiles)))
+          (sym (read (c .before))) (s .pre .named (t .before .loop .x) (t .loop-test .taken));
       space = omega (arith, s .pre .space, t .loop-test .taken, t .before .loop .inv .1 .long);
     }
 

@@ -50,7 +50,8 @@ returns : tie.Need-returns Inv-loop μ-loop
 returns c =
     let t = c .before .before .before .before .before .before .before .before .before in
     let k = c .before .before in
-    gather-full _ _ _ _ (t .before .loop .inv) (t .loop-test .taken) (k .before .before .before .before .before .before .take-tile .ensures) _ (k .keep-tile .ensures) (c .enum-told .given .1)
+    gather-full _ _ _ _ (t .before .loop .inv) (t .loop-test .taken) (k .before .before .before .before .before .before .take-tile .ensures)
+    _ (k .keep-tile .ensures) (c .enum-told .given .1)
 
 mul-codes : tie.Need-mul-codes Inv-loop μ-loop
 mul-codes c = omega (arith, below c)
@@ -68,7 +69,8 @@ loop-again : tie.Need-loop-again Inv-loop μ-loop
 loop-again c =
     let t = turn c in
     let k = c .before .before .before in
-    gather-more _ _ _ _ (t .before .loop .inv) (t .loop-test .taken) (k .before .before .before .before .before .before .take-tile .ensures) _ (k .keep-tile .ensures) (c .before .more .given .1) (few (t .before .before .before .before))
+    gather-more _ _ _ _ (t .before .loop .inv) (t .loop-test .taken) (k .before .before .before .before .before .before .take-tile .ensures)
+    _ (k .keep-tile .ensures) (c .before .more .given .1) (few (t .before .before .before .before))
 
 returns-2 : tie.Need-returns-2 Inv-loop μ-loop
 returns-2 c = gather-all _ _ _ _ (c .before .loop .inv) (omega (arith, c .loop-test .left, c .before .loop .inv .most))

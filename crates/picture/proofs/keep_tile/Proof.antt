@@ -15,7 +15,8 @@ start-none c = c .before .before .before .before .before .before .before .before
 abbrev start-found : tie.After-known-told → tie.Start
 start-found c = c .before .before .before .before .before .before .before .before .before
 
-there : (c : tie.After-known-told) → let a = start-found c .args in lookUp (a .flips) 8 8 (tilesIn 64 (now (a .store)) (a .count)) (now (a .tile)) ≡ At (c .before .found .given .0 .0) (c .before .found .given .0 .1 .0)
+there : (c : tie.After-known-told) → let a = start-found c .args in
+    lookUp (a .flips) 8 8 (tilesIn 64 (now (a .store)) (a .count)) (now (a .tile)) ≡ At (c .before .found .given .0 .0) (c .before .found .given .0 .1 .0)
 there c = sym (c .before .before .before .find .ensures) ∙ c .before .found .given .1
 
 key-requires : tie.Need-key-requires
@@ -43,7 +44,8 @@ returns : tie.Need-returns
 returns c =
     let told = c .before .before .before .before .before .before in
     let s = start-none told in
-    keep-none (s .pre) (s .args .discard) (sym (told .before .before .find .ensures) ∙ told .enum-told .given .1) (c .before .before .before .before .before .code .ensures) (c .store-tile .ensures)
+    keep-none (s .pre) (s .args .discard) (sym (told .before .before .find .ensures) ∙ told .enum-told .given .1)
+    (c .before .before .before .before .before .code .ensures) (c .store-tile .ensures)
 
 code-requires-2 : tie.Need-code-requires-2
 code-requires-2 c κs = let s = start-found c in place-few (s .pre) (s .args .discard) (there c)

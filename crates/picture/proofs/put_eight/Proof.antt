@@ -50,8 +50,11 @@ loop-less c = search needs
 loop-again : tie.Need-loop-again Inv-loop μ-loop
 loop-again c =
     let lp = c .before .before .before .before in
-    let a = lp .before .before .before .args in
-    (omega arith, filled-one {g = λ x. getD (now (a .pixels)) (a .from + x) 0 % 2 ^ a .depth} (lp .loop .inv .1) (c .low .ensures ∙ ap (λ (k : ℕ). k % 2 ^ a .depth) (c .before .wide .ensures .0)))
+    let a = lp .before .before .before .args in (
+      omega arith,
+      filled-one {g = λ x. getD (now (a .pixels)) (a .from + x) 0 % 2 ^ a .depth} (lp .loop .inv .1)
+          (c .low .ensures ∙ ap (λ (k : ℕ). k % 2 ^ a .depth) (c .before .wide .ensures .0)),
+    )
 
 same-length : tie.Need-same-length Inv-loop μ-loop
 same-length c = c .before .loop .inv .1 .long

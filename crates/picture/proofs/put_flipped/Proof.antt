@@ -44,8 +44,11 @@ loop-again : tie.Need-loop-again Inv-loop μ-loop
 loop-again c =
     let lp = c .before .before .before in
     let a = lp .before .before .before .args in
-    let at = flipped-at (a .f) 8 8 (now (a .tile)) (lp .loop .i) (c .before .before .loop-test .taken) in
-    (omega arith, filled-one {g = λ i. getD (flipped (a .f) 8 8 (now (a .tile))) i 0} (lp .loop .inv .1) (ap (λ (k : ℕ). getD (now (a .tile)) k 0) (c .before .flip-at .ensures .0) ∙ sym at))
+    let at = flipped-at (a .f) 8 8 (now (a .tile)) (lp .loop .i) (c .before .before .loop-test .taken) in (
+      omega arith,
+      filled-one {g = λ i. getD (flipped (a .f) 8 8 (now (a .tile))) i 0} (lp .loop .inv .1)
+          (ap (λ (k : ℕ). getD (now (a .tile)) k 0) (c .before .flip-at .ensures .0) ∙ sym at),
+    )
 
 same-length : tie.Need-same-length Inv-loop μ-loop
 same-length c = c .before .loop .inv .1 .long

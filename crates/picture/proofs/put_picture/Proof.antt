@@ -1,6 +1,6 @@
 -- Both buffers are put, and counted.
 use mathlib.Core.Path.{ap, _∙_}
-use Prim.Native.Nat.{ℕ, _*_, _-_}
+use Prim.Native.Nat.{ℕ, _≤_, _*_, _-_}
 use native.Mathlib.Nat.{mul-le-mul}
 use native.Mathlib.Omega.{arith}
 use Rattle.mapentry.proofs.Laws.{small}
@@ -46,7 +46,8 @@ mul-t20 : tie.Need-mul-t20
 mul-t20 c =
     let s = c .before .before .before .before .before .before .before .before .before .before .before .before .before in
     let size = c .before .before .before .before .before .before .before .before .mapentry-size in
-    omega (arith, mul-le-mul {n₁ = places (s .args .settings)} {m₁ = size .result} {n₂ = 4096} {m₂ = 2} (s .pre .few) (omega (arith, size .ensures, small (s .args .settings .mode) (s .pre .asTiles .mode) .entry)))
+    let two : size .result ≤ 2 = omega (arith, size .ensures, small (s .args .settings .mode) (s .pre .asTiles .mode) .entry) in
+    omega (arith, mul-le-mul {n₁ = places (s .args .settings)} {m₁ = size .result} {n₂ = 4096} {m₂ = 2} (s .pre .few) two)
 
 same-length : tie.Need-same-length
 same-length c = search needs

@@ -39,7 +39,8 @@ module _ (c : tie.Else3) where
   whole : length (now (start sized .args .map)) ≡ due sized (row (start sized .args .mode) .entry)
   whole = c .if3 .left ∙ ap (due sized) (c .before .mapentry-size .ensures)
 
-all-named : (c : tie.Else4) → let a = start (sized (c .before .before)) .args in some (a .columns * a .rows) (namesMore (a .mode) (a .depth) (length (now (a .tiles))) (now (a .map))) ≡ false
+all-named : (c : tie.Else4) → let a = start (sized (c .before .before)) .args in
+    some (a .columns * a .rows) (namesMore (a .mode) (a .depth) (length (now (a .tiles))) (now (a .map))) ≡ false
 all-named c = sym (c .before .names-more .ensures) ∙ c .if4 .left
 
 size-says-requires : tie.Need-size-says-requires
