@@ -1,15 +1,21 @@
--- Pixels of a picture and of its tiles: each stands in one tile, at one place.
+-- Numbers of tiles, and pixels of a picture and of its tiles: each stands in one tile, at one place.
 -- Assumes nothing.
 use mathlib.Core.Path.{_≡_, refl, sym, ap, _∙_}
+use mathlib.Core.Bool.{Bool, true, false, cond}
 use mathlib.Core.List.{List, [], _∷_}
 use Prim.Native.Nat.{ℕ, _+_, _*_, _/_, _%_, _^_, _<_}
-use native.Mathlib.Nat.{mod-lt, mul-one, mul-pos, mul-comm, mul-mul-mul-comm, div-add-mod', div-lt-iff-lt-mul}
+use native.Mathlib.Nat.{zero-add, mod-lt, mul-one, mul-pos, mul-comm, mul-mul-mul-comm, div-one, div-add-mod', div-lt-iff-lt-mul}
 use native.Mathlib.Omega.{arith}
+use lib.Dec.{eqb}
 use lib.ListN.{length, getD}
+use lib.Seq.{sets}
 use Rattle.words.specs.Loops.{each}
+use Rattle.words.proofs.Filling.{Filled, filled-more}
 use Rattle.words.proofs.Items.{item-getD}
 use Rattle.words.proofs.Loops.{length-each}
 use Rattle.flip.proofs.Group.{place-lt, place-row, place-column, row-lt}
+use Rattle.tileset.specs.Sets.{snes}
+use Rattle.tileset.specs.Numbers.{rowCells, startsAt, belongsTo, firstCell, tileOf, Grid}
 use Rattle.tileset.proofs.Stores.{cut-at}
 use Rattle.picture.specs.Cells.{pixelAt, tileOver, placeOver, cutTile}
 
@@ -21,6 +27,36 @@ pub number-at : (n : ℕ) (f : ℕ → ℕ) (i : ℕ) → i < n → getD (each n
 number-at n f i lt =
     let e : i * 1 + 0 ≡ i = omega arith in
     ap (λ (k : ℕ). getD (each n (λ k. f k ∷ [])) k 0) (sym e) ∙ item-getD 1 (λ k. f k ∷ []) (λ k. refl) n i lt 0 (omega arith)
+
+-- one item of k numbers more, from the start on
+pub filled-next : (k : ℕ) {f : ℕ → List ℕ} {out now then : List ℕ} {i : ℕ} → ((j : ℕ) → length (f j) ≡ k) → Filled f out 0 i now → then ≡ sets now (i * k) (f i)
+    → Filled f out 0 (i + 1) then
+filled-next k {f} {now = now} {i = i} size h e = filled-more k size h (e ∙ ap (λ (n : ℕ). sets now n (f i)) (sym (zero-add (i * k))))
+
+-- ---- "At 8x8 they agree": the native number of a tile, and back
+
+pub some-8 : 0 < 8
+some-8 = omega arith
+
+pub native-8 : (m n : ℕ) → firstCell m 8 8 n ≡ n
+unfolding startsAt
+native-8 m n = rw (div-one (rowCells m), mul-one (n / rowCells m), mul-one (n % rowCells m)) (div-add-mod' n (rowCells m))
+
+pub logical-8 : (m c : ℕ) → tileOf m 8 8 c ≡ c
+unfolding belongsTo
+logical-8 m c = rw (div-one (c / rowCells m), div-one (rowCells m), div-one (c % rowCells m)) (div-add-mod' c (rowCells m))
+
+pub named-back : (m n : ℕ) → tileOf m 8 8 (firstCell m 8 8 n) ≡ n
+named-back m n = logical-8 m (firstCell m 8 8 n) ∙ native-8 m n
+
+grid-case : (snes : Bool) → Grid (cond snes 16 1) 1 1
+grid-case true = record { row = refl; tiles = omega arith; across = omega arith; down = omega arith; narrow = omega arith; low = omega arith }
+grid-case false = record { row = refl; tiles = omega arith; across = omega arith; down = omega arith; narrow = omega arith; low = omega arith }
+
+pub grid-8 : (m : ℕ) → Grid (rowCells m) 1 1
+grid-8 m = grid-case (eqb m snes)
+
+-- ---- pixels
 
 -- pixel p of a tile, cut to the depth
 pub cutTile-at : (d w h columns : ℕ) (pixels : List ℕ) (i p : ℕ) → p < w * h → getD (cutTile d w h columns pixels i) p 0 ≡ getD pixels (pixelAt w h columns i p) 0 % 2 ^ d

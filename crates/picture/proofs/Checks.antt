@@ -2,16 +2,17 @@
 -- Assumes nothing.
 use mathlib.Core.Path.{_≡_, refl, sym, ap, _∙_, subst}
 use mathlib.Core.Bool.{Bool, true, false, not, cond, _&&_}
-use mathlib.Core.List.{List, [], _∷_, _++_}
-use Prim.Native.Nat.{ℕ, zero, suc, _*_, _/_, _^_, _<_, _≤_}
+use mathlib.Core.List.{List, [], _∷_}
+use Prim.Native.Nat.{ℕ, _*_, _/_, _^_, _<_, _≤_}
 use native.Mathlib.Nat.{suc-ne-zero, mul-le-mul, le-trans, le-div-iff-mul-le}
 use native.Mathlib.Omega.{arith}
 use lib.Dec.{T, leb, ltb, eqb, ltb→lt, leb→le}
 use lib.ListN.{length, getD}
 use lib.Pow.{pow-mono}
 use borrow.Author.Tests.{lt-ltb, le-ltb, ltb-false, eq-eqb, ne-eqb, eqb-true, eqb-false, not-false}
-use Rattle.words.specs.Answers.{_when_, firstApplying, unless}
-use Rattle.words.proofs.Answers.{all-passed, not-given, first-given, last-given, when-done, when-refused}
+use Rattle.words.specs.Answers.{_when_, firstApplying}
+use Rattle.words.proofs.Answers.{all-passed, not-given, first-given, last-given}
+use Rattle.words.proofs.Order.{first-append}
 use Rattle.words.proofs.Loops.{either, both-left, both-right}
 use Rattle.mode.specs.Table.{row, oneOf, hasDepth, pce-sprite}
 use Rattle.mapentry.specs.Entry.{misfitOf, misfitSays}
@@ -106,7 +107,7 @@ none-said Flip e = absurd (suc-ne-zero 9 e)
 none-said Priority e = absurd (suc-ne-zero 9 e)
 none-said Nothing e = refl
 
-module _ (z : Settings) (len room : ℕ) where
+module _ (z : Settings) (len space : ℕ) where
   abbrev size : ℕ
   size = sizeSays (z .mode) (z .depth) (z .columns) (z .rows)
 
@@ -117,7 +118,7 @@ module _ (z : Settings) (len room : ℕ) where
   misfit = misfitSays (misfitOf (z .mode) (entryAs 0 (z .palette) false false))
 
   abbrev short : Bool
-  short = ltb room (places z * row (z .mode) .entry)
+  short = ltb space (places z * row (z .mode) .entry)
 
   abbrev exact : Bool
   exact = eqb len (64 * places z)
@@ -137,41 +138,40 @@ module _ (z : Settings) (len room : ℕ) where
   not-7 : len ≡ 64 * places z → 7 when not exact ≡ 0
   not-7 e = ap (λ (b : Bool). 7 when not b) (eq-eqb len (64 * places z) e)
 
-  pub asked-size : (n : ℕ) → n ≡ size → (n ≡ 0 → ⊥) → n ≡ askedSays z len room
-  unfolding askedSays
-  asked-size n e h = first-given n from-5 e h
+  asked-is : askedSays z len space ≡ firstApplying (size ∷ from-5)
+  unfolding askedSays sizeSays
+  asked-is = first-append (sizeChecks (z .mode) (z .depth) (z .columns) (z .rows)) from-5
+
+  pub asked-size : (n : ℕ) → n ≡ size → (n ≡ 0 → ⊥) → n ≡ askedSays z len space
+  asked-size n e h = first-given n from-5 e h ∙ sym asked-is
 
   module _ (s : size ≡ 0) where
-    pub asked-5 : lacks ≡ true → 5 ≡ askedSays z len room
-    unfolding askedSays
-    asked-5 e = sym (next-given from-5 s ∙ ap (λ (b : Bool). firstApplying (5 when b ∷ from-7)) e)
+    pub asked-5 : lacks ≡ true → 5 ≡ askedSays z len space
+    asked-5 e = sym (asked-is ∙ next-given from-5 s ∙ ap (λ (b : Bool). firstApplying (5 when b ∷ from-7)) e)
 
     module _ (f : lacks ≡ false) where
-      pub asked-7 : (len ≡ 64 * places z → ⊥) → 7 ≡ askedSays z len room
-      unfolding askedSays
-      asked-7 e = sym (next-given from-5 s ∙ next-given from-7 (not-5 f) ∙ ap (λ (b : Bool). firstApplying (7 when not b ∷ misfit ∷ from-11)) (ne-eqb len (64 * places z) e))
+      pub asked-7 : (len ≡ 64 * places z → ⊥) → 7 ≡ askedSays z len space
+      asked-7 e = sym (asked-is ∙ next-given from-5 s ∙ next-given from-7 (not-5 f) ∙ ap (λ (b : Bool). firstApplying (7 when not b ∷ misfit ∷ from-11)) (ne-eqb len (64 * places z) e))
 
       module _ (l : len ≡ 64 * places z) where
-        to-misfit : askedSays z len room ≡ firstApplying (misfit ∷ from-11)
-        unfolding askedSays
-        to-misfit = next-given from-5 s ∙ next-given from-7 (not-5 f) ∙ next-given (misfit ∷ from-11) (not-7 l)
+        to-misfit : askedSays z len space ≡ firstApplying (misfit ∷ from-11)
+        to-misfit = asked-is ∙ next-given from-5 s ∙ next-given from-7 (not-5 f) ∙ next-given (misfit ∷ from-11) (not-7 l)
 
-        pub asked-10 : (n : ℕ) → n ≡ misfit → (n ≡ 0 → ⊥) → n ≡ askedSays z len room
+        pub asked-10 : (n : ℕ) → n ≡ misfit → (n ≡ 0 → ⊥) → n ≡ askedSays z len space
         asked-10 n e h = first-given n from-11 e h ∙ sym to-misfit
 
         module _ (p : misfit ≡ 0) where
-          pub asked-11 : room < places z * row (z .mode) .entry → 11 ≡ askedSays z len room
-          asked-11 h = sym (to-misfit ∙ next-given from-11 p ∙ ap (λ (b : Bool). firstApplying (11 when b ∷ [])) (lt-ltb room (places z * row (z .mode) .entry) h))
+          pub asked-11 : space < places z * row (z .mode) .entry → 11 ≡ askedSays z len space
+          asked-11 h = sym (to-misfit ∙ next-given from-11 p ∙ ap (λ (b : Bool). firstApplying (11 when b ∷ [])) (lt-ltb space (places z * row (z .mode) .entry) h))
 
-          pub asked-0 : places z * row (z .mode) .entry ≤ room → 0 ≡ askedSays z len room
-          asked-0 h = sym (to-misfit ∙ next-given from-11 p ∙ ap (λ (b : Bool). firstApplying (11 when b ∷ [])) (le-ltb room (places z * row (z .mode) .entry) h))
+          pub asked-0 : places z * row (z .mode) .entry ≤ space → 0 ≡ askedSays z len space
+          asked-0 h = sym (to-misfit ∙ next-given from-11 p ∙ ap (λ (b : Bool). firstApplying (11 when b ∷ [])) (le-ltb space (places z * row (z .mode) .entry) h))
 
   -- ---- nothing was refused
 
-  module _ (a : askedSays z len room ≡ 0) where
-    asked-passed : (k : ℕ) → getD (askedChecks z len room) k 0 ≡ 0
-    unfolding askedSays
-    asked-passed = all-passed (askedChecks z len room) a
+  module _ (a : askedSays z len space ≡ 0) where
+    asked-passed : (k : ℕ) → getD (size ∷ from-5) k 0 ≡ 0
+    asked-passed = all-passed (size ∷ from-5) (sym asked-is ∙ a)
 
     pub size-passed : size ≡ 0
     size-passed = asked-passed 0
@@ -195,8 +195,8 @@ module _ (z : Settings) (len room : ℕ) where
           palette = fitting (z .mode) (entryAs 0 (z .palette) false false) (none-said (misfitOf (z .mode) (entryAs 0 (z .palette) false false)) (asked-passed 3)) .palette;
         }
 
-    pub asked-map : places z * row (z .mode) .entry ≤ room
-    asked-map = ltb-false room (places z * row (z .mode) .entry) (not-given 10 short (asked-passed 4))
+    pub asked-map : places z * row (z .mode) .entry ≤ space
+    asked-map = ltb-false space (places z * row (z .mode) .entry) (not-given 10 short (asked-passed 4))
 
 -- ---- room
 
@@ -218,42 +218,32 @@ module _ (z : Settings) (len : ℕ) where
 
 -- ---- every check
 
--- one check after others
-then : (ns : List ℕ) (n : ℕ) → firstApplying (ns ++ n ∷ []) ≡ unless (firstApplying ns) n (firstApplying ns)
-then [] n = sym (last-given n)
-then (zero ∷ ns) n = then ns n
-then (suc k ∷ ns) n = refl
-
-both-pass : (n : ℕ) (b : Bool) → unless n (12 when b) n ≡ 0 → (n ≡ 0) × (b ≡ false)
-both-pass zero b e = (refl, not-given 11 b e)
-both-pass (suc n) b e = absurd (suc-ne-zero n e)
-
-module _ (z : Settings) (pixels : List ℕ) (tileRoom mapRoom : ℕ) where
+module _ (z : Settings) (pixels : List ℕ) (tileSpace mapSpace : ℕ) where
   abbrev asked : ℕ
-  asked = askedSays z (length pixels) mapRoom
+  asked = askedSays z (length pixels) mapSpace
 
   abbrev full : Bool
-  full = ltb (pictureRoom z tileRoom) (needOf z pixels)
+  full = ltb (pictureRoom z tileSpace) (needOf 8 8 z pixels)
 
   -- the room alone decides where no check before it gives a number
-  pub convert-is : convertSays z pixels tileRoom mapRoom ≡ unless asked (12 when full) asked
+  pub convert-is : convertSays z pixels tileSpace mapSpace ≡ firstApplying (asked ∷ 12 when full ∷ [])
   unfolding askedSays convertSays
-  convert-is = then (askedChecks z (length pixels) mapRoom) (12 when full)
+  convert-is = first-append (askedChecks z (length pixels) mapSpace) (12 when full ∷ [])
 
-  pub convert-asked : (n : ℕ) → n ≡ asked → (n ≡ 0 → ⊥) → n ≡ convertSays z pixels tileRoom mapRoom
-  convert-asked n e h = e ∙ sym (convert-is ∙ when-refused asked (12 when full) asked (λ z. h (e ∙ z)))
+  pub convert-asked : (n : ℕ) → n ≡ asked → (n ≡ 0 → ⊥) → n ≡ convertSays z pixels tileSpace mapSpace
+  convert-asked n e h = first-given n (12 when full ∷ []) e h ∙ sym convert-is
 
   module _ (a : asked ≡ 0) where
-    to-room : convertSays z pixels tileRoom mapRoom ≡ 12 when full
-    to-room = convert-is ∙ when-done asked (12 when full) asked a
+    pub to-room : convertSays z pixels tileSpace mapSpace ≡ 12 when full
+    to-room = convert-is ∙ next-given (12 when full ∷ []) a ∙ sym (last-given (12 when full))
 
-    pub convert-12 : pictureRoom z tileRoom < needOf z pixels → 12 ≡ convertSays z pixels tileRoom mapRoom
-    convert-12 h = sym (to-room ∙ ap (λ (b : Bool). 12 when b) (lt-ltb (pictureRoom z tileRoom) (needOf z pixels) h))
+    pub convert-12 : pictureRoom z tileSpace < needOf 8 8 z pixels → 12 ≡ convertSays z pixels tileSpace mapSpace
+    convert-12 h = sym (to-room ∙ ap (λ (b : Bool). 12 when b) (lt-ltb (pictureRoom z tileSpace) (needOf 8 8 z pixels) h))
 
-    pub convert-0 : needOf z pixels ≤ pictureRoom z tileRoom → convertSays z pixels tileRoom mapRoom ≡ 0
-    convert-0 h = to-room ∙ ap (λ (b : Bool). 12 when b) (le-ltb (pictureRoom z tileRoom) (needOf z pixels) h)
+    pub convert-0 : needOf 8 8 z pixels ≤ pictureRoom z tileSpace → convertSays z pixels tileSpace mapSpace ≡ 0
+    convert-0 h = to-room ∙ ap (λ (b : Bool). 12 when b) (le-ltb (pictureRoom z tileSpace) (needOf 8 8 z pixels) h)
 
-  pub convert-passed : convertSays z pixels tileRoom mapRoom ≡ 0 → (asked ≡ 0) × (needOf z pixels ≤ pictureRoom z tileRoom)
+  pub convert-passed : convertSays z pixels tileSpace mapSpace ≡ 0 → (asked ≡ 0) × (needOf 8 8 z pixels ≤ pictureRoom z tileSpace)
   convert-passed e =
-      let passed = both-pass asked full (sym convert-is ∙ e) in
-      (passed .0, ltb-false (pictureRoom z tileRoom) (needOf z pixels) (passed .1))
+      let passed : (k : ℕ) → getD (asked ∷ 12 when full ∷ []) k 0 ≡ 0 = all-passed (asked ∷ 12 when full ∷ []) (sym convert-is ∙ e) in
+      (passed 0, ltb-false (pictureRoom z tileSpace) (needOf 8 8 z pixels) (not-given 11 full (passed 1)))

@@ -1,6 +1,6 @@
 -- What a conversion gives: where each tile is found, how many are stored, the entries, and how many bytes.
 -- Assumes nothing.
-use mathlib.Core.Path.{_≡_, refl, ap, _∙_}
+use mathlib.Core.Path.{_≡_, refl, sym, ap, _∙_, subst}
 use mathlib.Core.Bool.{Bool, true, false, _&&_}
 use mathlib.Core.List.{List, []}
 use Prim.Native.Nat.{ℕ, suc, _+_, _*_, _^_, _<_, _≤_}
@@ -34,6 +34,7 @@ use Rattle.picture.specs.declared.Settings.{Settings}
 use Rattle.tileset.proofs.Keeping.{kept-need, need-discarded}
 use Rattle.tileset.proofs.Search.{look-told}
 use Rattle.picture.proofs.Kept.{cutTiles-at, found-here, found-final, length-cutTiles}
+use Rattle.picture.proofs.Cells.{native-8}
 use Rattle.picture.proofs.Checks.{native-tile}
 
 pub bit-small : (b : Bool) → bit b ≤ 1
@@ -54,50 +55,52 @@ packed-size n t = packed-length n t ∙ omega arith
 pub entry-size : (m : ℕ) (e : Mapentry) → length (entryBytes m e) ≡ row m .entry
 entry-size m e = length-bytes (row m .entry) (mostFirst m) (entryWord m e)
 
-module _ (z : Settings) (pixels : List ℕ) where
+module _ (w h : ℕ) (some : 0 < w) (z : Settings) (pixels : List ℕ) where
   -- ---- the tiles
 
-  pub length-tiles : length (pictureTiles z pixels) ≡ places z
+  pub length-tiles : length (pictureTiles w h z pixels) ≡ places z
   unfolding pictureTiles
-  length-tiles = length-cutTiles (z .depth) 8 8 (z .columns) pixels (places z)
+  length-tiles = length-cutTiles (z .depth) w h (z .columns) pixels (places z)
 
-  pub tile-is : (i : ℕ) → i < places z → getD (pictureTiles z pixels) i [] ≡ cutTile (z .depth) 8 8 (z .columns) pixels i
+  pub tile-is : (i : ℕ) → i < places z → getD (pictureTiles w h z pixels) i [] ≡ cutTile (z .depth) w h (z .columns) pixels i
   unfolding pictureTiles
-  tile-is i lt = cutTiles-at (z .depth) 8 8 (z .columns) pixels (places z) i lt
+  tile-is i lt = cutTiles-at (z .depth) w h (z .columns) pixels (places z) i lt
 
   -- a tile is found where it was found right after it was taken
   pub found-taken : (i : ℕ) → i < places z
-      → foundAt z pixels i
-      ≡ lookUp (z .flip) 8 8 (kept (z .discard) (z .flip) 8 8 (cutTiles (z .depth) 8 8 (z .columns) pixels (suc i))) (cutTile (z .depth) 8 8 (z .columns) pixels i)
-  unfolding foundAt storedOf pictureTiles
+      → foundAt w h z pixels i
+      ≡ lookUp (z .flip) w h (kept (z .discard) (z .flip) w h (cutTiles (z .depth) w h (z .columns) pixels (suc i))) (cutTile (z .depth) w h (z .columns) pixels i)
+  unfolding foundAt storedOf pictureTiles kept
   found-taken i lt =
-      ap (lookUp (z .flip) 8 8 (storedOf z pixels)) (tile-is i lt)
-      ∙ found-final (z .discard) (z .flip) (z .depth) 8 8 (z .columns) pixels (omega arith) (places z) i lt
+      ap (lookUp (z .flip) w h (storedOf w h z pixels)) (tile-is i lt)
+      ∙ found-final (z .discard) (z .flip) (z .depth) w h (z .columns) pixels [] 0 some (places z) i (omega arith) lt
 
-  pub is-found : (i : ℕ) → i < places z → isFound (foundAt z pixels i) ≡ true
-  is-found i lt = ap isFound (found-taken i lt) ∙ found-here (z .discard) (z .flip) (z .depth) 8 8 (z .columns) pixels (omega arith) i
+  pub is-found : (i : ℕ) → i < places z → isFound (foundAt w h z pixels i) ≡ true
+  unfolding kept
+  is-found i lt = ap isFound (found-taken i lt) ∙ found-here (z .discard) (z .flip) (z .depth) w h (z .columns) pixels [] 0 some i (omega arith)
 
   -- ---- counts
 
-  pub stored-need : length (storedOf z pixels) ≡ needOf z pixels
+  pub stored-need : length (storedOf w h z pixels) ≡ needOf w h z pixels
   unfolding storedOf needOf
-  stored-need = kept-need (z .flip) 8 8 (omega arith) (z .discard) (pictureTiles z pixels)
+  stored-need = kept-need (z .flip) w h some (z .discard) (pictureTiles w h z pixels)
 
-  pub stored-discarded : length (storedOf z pixels) + discardedOf z pixels ≡ places z
+  pub stored-discarded : length (storedOf w h z pixels) + discardedOf w h z pixels ≡ places z
   unfolding needOf discardedOf
   stored-discarded =
-      ap (λ (n : ℕ). n + discardedOf z pixels) stored-need ∙ need-discarded (z .flip) 8 8 (z .discard) (pictureTiles z pixels) ∙ length-tiles
+      ap (λ (n : ℕ). n + discardedOf w h z pixels) stored-need ∙ need-discarded (z .flip) w h (z .discard) (pictureTiles w h z pixels) ∙ length-tiles
 
+module _ (z : Settings) (pixels : List ℕ) where
   -- ---- entries
 
-  module _ (s : IsPicture z (length pixels)) (room : length (storedOf z pixels) ≤ 2 ^ row (z .mode) .tile) where
-    fits-case : (i : ℕ) (r : Found) → foundAt z pixels i ≡ r → Fitting (z .mode) (entryFor (z .palette) r)
+  module _ (s : IsPicture z (length pixels)) (room : length (storedOf 8 8 z pixels) ≤ 2 ^ row (z .mode) .tile) where
+    fits-case : (i : ℕ) (r : Found) → foundAt 8 8 z pixels i ≡ r → Fitting (z .mode) (entryFor (z .mode) 8 8 (z .palette) r)
     unfolding foundAt
     fits-case i (At k f) e =
-        let told = look-told (z .flip) 8 8 (getD (pictureTiles z pixels) i []) (storedOf z pixels) e in
+        let told = look-told (z .flip) 8 8 (getD (pictureTiles 8 8 z pixels) i []) (storedOf 8 8 z pixels) e in
         let flips = flip-fits (z .flip) (row (z .mode) .flips) f (s .flips) (told .1 .0) in
         record {
-          tile = lt-of-lt-of-le (told .0) room;
+          tile = subst (λ (n : ℕ). n < 2 ^ row (z .mode) .tile) (sym (native-8 (z .mode) (k .0))) (lt-of-lt-of-le (told .0) room);
           palette = s .palette;
           h = flips .0;
           v = flips .1;
@@ -112,20 +115,20 @@ module _ (z : Settings) (pixels : List ℕ) where
           priority = pow-pos (row (z .mode) .priority);
         }
 
-    pub found-fits : (i : ℕ) → IsEntry (z .mode) (entryFor (z .palette) (foundAt z pixels i))
+    pub found-fits : (i : ℕ) → IsEntry (z .mode) (entryFor (z .mode) 8 8 (z .palette) (foundAt 8 8 z pixels i))
     found-fits i =
-        record { mode = s .mode; map = s .map; fits = fits-all (z .mode) (entryFor (z .palette) (foundAt z pixels i)) (fits-case i (foundAt z pixels i) refl) }
+        record { mode = s .mode; map = s .map; fits = fits-all (z .mode) (entryFor (z .mode) 8 8 (z .palette) (foundAt 8 8 z pixels i)) (fits-case i (foundAt 8 8 z pixels i) refl) }
 
   -- ---- bytes
 
-  pub tile-bytes-length : IsPicture z (length pixels) → length (tileBytes z pixels) ≡ length (storedOf z pixels) * (z .depth * 8)
+  pub tile-bytes-length : IsPicture z (length pixels) → length (tileBytes z pixels) ≡ length (storedOf 8 8 z pixels) * (z .depth * 8)
   unfolding tileBytes
   tile-bytes-length s =
-      length-each (length (storedOf z pixels)) (z .depth * 8) (λ k. packed (z .mode) (z .depth) 8 8 (getD (storedOf z pixels) k []))
-      (λ k. packed-size (native-tile (s .mode) (s .map) (s .depth)) (getD (storedOf z pixels) k []))
+      length-each (length (storedOf 8 8 z pixels)) (z .depth * 8) (λ k. packed (z .mode) (z .depth) 8 8 (getD (storedOf 8 8 z pixels) k []))
+      (λ k. packed-size (native-tile (s .mode) (s .map) (s .depth)) (getD (storedOf 8 8 z pixels) k []))
 
   pub map-bytes-length : length (mapBytes z pixels) ≡ places z * row (z .mode) .entry
   unfolding mapBytes
   map-bytes-length =
-      length-each (places z) (row (z .mode) .entry) (λ i. entryBytes (z .mode) (entryFor (z .palette) (foundAt z pixels i)))
-      (λ i. entry-size (z .mode) (entryFor (z .palette) (foundAt z pixels i)))
+      length-each (places z) (row (z .mode) .entry) (λ i. entryBytes (z .mode) (entryFor (z .mode) 8 8 (z .palette) (foundAt 8 8 z pixels i)))
+      (λ i. entry-size (z .mode) (entryFor (z .mode) 8 8 (z .palette) (foundAt 8 8 z pixels i)))

@@ -3,11 +3,10 @@
 use mathlib.Core.Path.{_≡_, refl, sym, ap, _∙_, subst}
 use mathlib.Core.List.{List, [], _∷_, _++_, append-assoc, append-nil}
 use Prim.Native.Nat.{ℕ, zero, suc, _+_, _*_, _/_, _%_, _^_, _<_, _≤_}
-use native.Mathlib.Nat.{add-zero, add-suc, suc-add, zero-mul, suc-mul, mod-eq-of-lt, mul-comm, mul-assoc, mul-le-mul-right}
-use native.Mathlib.Numerals.{add-one}
+use native.Mathlib.Nat.{add-zero, add-suc, zero-mul, suc-mul, mod-eq-of-lt, mul-comm, mul-assoc, mul-le-mul-right}
 use native.Mathlib.Omega.{arith}
-use lib.ListN.{length, getD, set, take, drop, drop-of-length-le, List·getD-append}
-use lib.Seq.{sets, length-sets}
+use lib.ListN.{length, getD, take, drop, drop-of-length-le, List·getD-append}
+use lib.Seq.{sets}
 use Rattle.words.specs.Loops.{each}
 use Rattle.words.proofs.Items.{each-eq, item-getD, item-inside}
 use Rattle.words.proofs.Loops.{length-each, sets-front}
@@ -22,40 +21,11 @@ use Rattle.flip.specs.Flips.{flip, flipped}
 use Rattle.flip.proofs.Group.{length-flipped, place-row, place-column}
 use Rattle.mapentry.specs.Entry.{entryOf}
 use Rattle.mapentry.specs.declared.Mapentry.{Mapentry}
+use Rattle.picture.specs.Entries.{tileNamed}
 use Rattle.picture.specs.Cells.{tileOver, placeOver}
 use Rattle.picture.specs.Redrawing.{entryAt, drawnTile, drawn}
 use Rattle.picture.specs.Inner.{stripOf, pixelLine, DrawsStrip, Draws}
 use Rattle.picture.proofs.Cells.{length-ones}
-
--- ---- the loop that puts items of k numbers one after the other, from place at on
-
-pub sets-append : (xs ys l : List ℕ) (i : ℕ) → sets l i (xs ++ ys) ≡ sets (sets l i xs) (i + length xs) ys
-sets-append [] ys l i = ap (λ (n : ℕ). sets l n ys) (sym (add-zero i))
-sets-append (a ∷ xs) ys l i =
-    sets-append xs ys (set l i a) (suc i)
-    ∙ ap (λ (n : ℕ). sets (sets (set l i a) (suc i) xs) n ys) (suc-add i (length xs) ∙ sym (add-suc i (length xs)))
-
-pub record Spreading (f : ℕ → List ℕ) (out : List ℕ) (at i : ℕ) (now : List ℕ) : Type 0 where
-  pub is : now ≡ sets out at (each i f)
-  pub long : length now ≡ length out
-
-pub spread-none : (f : ℕ → List ℕ) (out : List ℕ) (at : ℕ) → Spreading f out at 0 out
-spread-none f out at = record { is = refl; long = refl }
-
-pub spread-more : (k : ℕ) {f : ℕ → List ℕ} {out now then : List ℕ} {at i : ℕ} → ((j : ℕ) → length (f j) ≡ k) → Spreading f out at i now → then ≡ sets now (at + i * k) (f i)
-    → Spreading f out at (i + 1) then
-spread-more k {f} {out} {now} {then} {at} {i} size h e =
-    record {
-      is =
-          e ∙ ap (λ (l : List ℕ). sets l (at + i * k) (f i)) (h .is)
-          ∙ ap (λ (n : ℕ). sets (sets out at (each i f)) (at + n) (f i)) (sym (length-each i k f size))
-          ∙ sym (sets-append (each i f) (f i) out at)
-          ∙ ap (λ (n : ℕ). sets out at (each n f)) (sym (add-one i));
-      long = ap length e ∙ length-sets now (at + i * k) (f i) ∙ h .long;
-    }
-
-pub spread-all : {f : ℕ → List ℕ} {out now : List ℕ} {at i : ℕ} (n : ℕ) → Spreading f out at i now → i ≡ n → now ≡ sets out at (each n f)
-spread-all {f} {out} {now} {at} n h e = h .is ∙ ap (λ (k : ℕ). sets out at (each k f)) e
 
 -- ---- items of items
 
@@ -82,7 +52,7 @@ row-whole l from small =
 
 module _ {m d : ℕ} {p : Packing} (q : p ≡ packingOf m d 8 8) (n : Native m d 8 8) where
   pub unpacks-at : (bytes out : List ℕ) (from : ℕ) → from + d * 8 ≤ length bytes → length out ≡ 64 → Unpacks p bytes from out 0
-  unpacks-at bytes out from inside room =
+  unpacks-at bytes out from inside space =
       subst (λ (k : Packing). Unpacks k bytes from out 0) (sym q)
       (record { sound = fitting n .sound; inside = omega (arith, fitting n .bytes); space = omega (arith, fitting n .pixels) })
 
@@ -108,10 +78,10 @@ module _ {m d : ℕ} {p : Packing} (q : p ≡ packingOf m d 8 8) (n : Native m d
 
 pub drawn-length : (m d : ℕ) (tiles : List ℕ) (e : Mapentry) → length (drawnTile m d tiles e) ≡ 64
 unfolding drawnTile
-drawn-length m d tiles e = length-flipped (flip (e .«flip_h») (e .«flip_v»)) 8 8 (unpacked m d 8 8 (take (d * 8) (drop (e .tile * (d * 8)) tiles)))
+drawn-length m d tiles e = length-flipped (flip (e .«flip_h») (e .«flip_v»)) 8 8 (unpacked m d 8 8 (take (d * 8) (drop (tileNamed m 8 8 e * (d * 8)) tiles)))
 
 pub drawn-is : (m d : ℕ) (tiles : List ℕ) (e : Mapentry) (tile out : List ℕ) (at : ℕ) {now : List ℕ} → now ≡ sets out at (flipped (flip (e .«flip_h») (e .«flip_v»)) 8 8 tile)
-    → tile ≡ unpacked m d 8 8 (take (d * 8) (drop (e .tile * (d * 8)) tiles)) → now ≡ sets out at (drawnTile m d tiles e)
+    → tile ≡ unpacked m d 8 8 (take (d * 8) (drop (tileNamed m 8 8 e * (d * 8)) tiles)) → now ≡ sets out at (drawnTile m d tiles e)
 unfolding drawnTile
 drawn-is m d tiles e tile out at p q = p ∙ ap (λ (l : List ℕ). sets out at (flipped (flip (e .«flip_h») (e .«flip_v»)) 8 8 l)) q
 
@@ -181,7 +151,7 @@ module _ (m d columns : ℕ) (tiles map : List ℕ) where
 
   -- ---- a row of tiles
 
-  module _ (buffer strip : List ℕ) (y : ℕ) (room : columns * 64 ≤ length buffer) (is : strip ≡ sets buffer 0 (stripOf m d columns (y * columns) tiles map)) where
+  module _ (buffer strip : List ℕ) (y : ℕ) (space : columns * 64 ≤ length buffer) (is : strip ≡ sets buffer 0 (stripOf m d columns (y * columns) tiles map)) where
     long : length (stripOf m d columns (y * columns) tiles map) ≡ columns * 64
     long = length-each columns 64 (λ x. drawnTile m d tiles (entryAt m map (y * columns + x))) (λ x. drawn-length m d tiles (entryAt m map (y * columns + x)))
 
@@ -221,7 +191,7 @@ module _ (m d columns : ℕ) (tiles map : List ℕ) where
 
 pub strip-asks : {m d columns rows : ℕ} {tiles map out strip : List ℕ} (z : Draws m d columns rows tiles map out) (y : ℕ) → y < rows → columns * 64 ≤ length strip → columns * rows ≤ 4096
     → DrawsStrip m d columns (y * columns) tiles map strip
-strip-asks {m} {d} {columns} {rows} z y lt room few =
+strip-asks {m} {d} {columns} {rows} z y lt space few =
     let inside : y * columns + columns ≤ columns * rows = omega (arith, item-inside columns rows y lt, mul-comm columns rows) in
     record {
       mode = z .mode;
@@ -230,8 +200,8 @@ strip-asks {m} {d} {columns} {rows} z y lt room few =
       few = omega arith;
       inside = omega (arith, mul-le-mul-right (row m .entry) inside, z .whole);
       named = λ x hx. z .named (y * columns + x) (omega arith);
-      room = room;
+      space = space;
     }
 
-pub row-room : (columns rows y : ℕ) → y < rows → y * (8 * (columns * 8)) + 8 * (columns * 8) ≤ 64 * (columns * rows)
-row-room columns rows y lt = omega (arith, item-inside (8 * (columns * 8)) rows y lt, mul-comm columns rows)
+pub row-space : (columns rows y : ℕ) → y < rows → y * (8 * (columns * 8)) + 8 * (columns * 8) ≤ 64 * (columns * rows)
+row-space columns rows y lt = omega (arith, item-inside (8 * (columns * 8)) rows y lt, mul-comm columns rows)

@@ -13,6 +13,7 @@ use Rattle.tile.specs.Tile.{packingOf}
 use Rattle.flip.specs.Flips.{flipAt, flipped}
 use Rattle.flip.specs.Matching.{matchFlip}
 use Rattle.tileset.specs.Finding.{cutTo, lookUp}
+use Rattle.tileset.specs.Numbers.{startsAt}
 use Rattle.picture.specs.Cells.{pixelAt, cutTile, cutTiles}
 use Rattle.tileset.specs.Keeping.{keep, kept, need, discarded}
 use Rattle.picture.specs.Converting.{pictureTiles, storedOf, needOf, discardedOf, tileBytes, foundAt, mapBytes, pictureRoom, sizeSays, convertSays, answerOf}
@@ -38,5 +39,5 @@ example-tiles = refl
 
 -- "then 00 00 00 40"
 pub example-map : mapBytes example examplePixels ≡ 0 ∷ 0 ∷ 0 ∷ 64 ∷ []
-unfolding row layout fromBits table spread packingOf flipAt flipped matchFlip cutTo lookUp pixelAt cutTile cutTiles keep kept pictureTiles storedOf foundAt mapBytes
+unfolding row layout fromBits table spread packingOf flipAt flipped matchFlip cutTo lookUp pixelAt cutTile cutTiles keep kept pictureTiles storedOf foundAt mapBytes startsAt
 example-map = refl

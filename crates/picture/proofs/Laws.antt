@@ -7,105 +7,109 @@ use Prim.Native.Nat.{ℕ, suc, _+_, _*_, _<_, _≤_}
 use native.Mathlib.Omega.{arith}
 use lib.ListN.{length, take, drop}
 use lib.Seq.{take-at}
-use Rattle.words.specs.Answers.{firstApplying, unless, overwrite}
-use Rattle.words.proofs.Answers.{when-done}
-use Rattle.tileset.specs.Finding.{lookUp, isFound, cutTo}
+use Rattle.words.specs.Answers.{firstApplying, unless, overwrite, Wrote}
+use Rattle.words.specs.declared.Written.{Written}
+use Rattle.words.proofs.Answers.{when-done, when-refused}
+use Rattle.tile.specs.Tile.{unpacked}
+use Rattle.tileset.specs.Finding.{lookUp, isFound, cutTo, tilesIn}
 use Rattle.tileset.specs.Sets.{roomIn, newSet}
+use Rattle.tileset.specs.Writing.{setBytes}
 use Rattle.tileset.specs.Matched.{Apart}
 use Rattle.tileset.specs.Keeping.{kept, discarded}
 use Rattle.tileset.specs.History.{setAtEnd, storeAtEnd, accepted as adds, setTiles}
 use Rattle.tileset.specs.declared.Set.{Set}
 use Rattle.picture.specs.Cells.{cutTile, cutTiles}
-use Rattle.picture.specs.Converting.{places, pictureTiles, storedOf, needOf, discardedOf, tileBytes, foundAt, mapBytes, pictureRoom, sizeSays, convertChecks, convertSays, Converts}
+use Rattle.picture.specs.Converting.{places, pictureTiles, storedOf, needOf, discardedOf, tileBytes, foundAt, mapBytes, pictureRoom, sizeSays, askedChecks, convertSays, Converts}
 use Rattle.picture.specs.Redrawing.{drawn, redrawSays}
 use Rattle.picture.specs.Inner.{askedSays}
 use Rattle.picture.specs.declared.Settings.{Settings}
 use Rattle.picture.specs.declared.Picture.{Picture}
+use Rattle.picture.proofs.Cells.{some-8}
 use Rattle.picture.proofs.Checks.{convert-12, convert-0, convert-passed}
 use Rattle.tileset.proofs.Keeping.{kept-apart, none-discarded as off-none}
 use Rattle.picture.proofs.Converted.{found-taken, is-found, stored-need, stored-discarded}
 use Rattle.picture.proofs.Room.{convert-full}
-use Rattle.picture.proofs.ByAdding.{tiles-accepted, tiles-stored, tiles-count, tiles-sum, tiles-cut}
-use Rattle.picture.proofs.Redrawn.{tiles-fit, map-fits, redraw-accepted, drawn-back}
+use Rattle.picture.proofs.ByAdding.{tiles-accepted, tiles-stored, tiles-count, tiles-sum, tiles-cut, tiles-bytes}
+use Rattle.picture.proofs.Redrawn.{tiles-fit, map-fits, tiles-back, redraw-accepted, drawn-back}
 
 -- ---- an accepted picture is drawn again: what the conversion wrote is accepted by redrawing, and gives the picture, cut to the depth
 
-pub redrawn-back : (z : Settings) (pixels : List ℕ) (tileRoom mapRoom room : ℕ) → convertSays z pixels tileRoom mapRoom ≡ 0 → 64 * places z ≤ room
-    → (redrawSays (z .mode) (z .depth) (z .columns) (z .rows) (tileBytes z pixels) (mapBytes z pixels) room ≡ 0)
+pub redrawn-back : (z : Settings) (pixels : List ℕ) (tileSpace mapSpace space : ℕ) → convertSays z pixels tileSpace mapSpace ≡ 0 → 64 * places z ≤ space
+    → (redrawSays (z .mode) (z .depth) (z .columns) (z .rows) (tileBytes z pixels) (mapBytes z pixels) space ≡ 0)
     × (drawn (z .mode) (z .depth) (z .columns) (z .rows) (tileBytes z pixels) (mapBytes z pixels) ≡ cutTo (z .depth) pixels)
-redrawn-back z pixels tileRoom mapRoom room done enough =
-    (redraw-accepted z pixels tileRoom mapRoom done room enough, drawn-back z pixels tileRoom mapRoom done)
+redrawn-back z pixels tileSpace mapSpace space done enough =
+    (redraw-accepted z pixels tileSpace mapSpace done space enough, drawn-back z pixels tileSpace mapSpace done)
 
 -- so two pictures of which the same bytes are written are the same, cut to the depth
-pub alike-pictures : (z : Settings) (pixels others : List ℕ) (tileRoom mapRoom tileOther mapOther : ℕ)
-    → convertSays z pixels tileRoom mapRoom ≡ 0 → convertSays z others tileOther mapOther ≡ 0
+pub alike-pictures : (z : Settings) (pixels others : List ℕ) (tileSpace mapSpace tileOther mapOther : ℕ)
+    → convertSays z pixels tileSpace mapSpace ≡ 0 → convertSays z others tileOther mapOther ≡ 0
     → tileBytes z pixels ≡ tileBytes z others → mapBytes z pixels ≡ mapBytes z others → cutTo (z .depth) pixels ≡ cutTo (z .depth) others
-alike-pictures z pixels others tileRoom mapRoom tileOther mapOther done also tiles map =
-    sym (drawn-back z pixels tileRoom mapRoom done)
+alike-pictures z pixels others tileSpace mapSpace tileOther mapOther done also tiles map =
+    sym (drawn-back z pixels tileSpace mapSpace done)
     ∙ ap (λ (l : List ℕ). drawn (z .mode) (z .depth) (z .columns) (z .rows) l (mapBytes z pixels)) tiles
     ∙ ap (drawn (z .mode) (z .depth) (z .columns) (z .rows) (tileBytes z others)) map
     ∙ drawn-back z others tileOther mapOther also
 
 -- both buffers of an accepted picture hold what is written
-pub bytes-fit : (z : Settings) (pixels : List ℕ) (tileRoom mapRoom : ℕ) → convertSays z pixels tileRoom mapRoom ≡ 0
-    → (length (tileBytes z pixels) ≤ tileRoom) × (length (mapBytes z pixels) ≤ mapRoom)
-bytes-fit z pixels tileRoom mapRoom done = (tiles-fit z pixels tileRoom mapRoom done, map-fits z pixels tileRoom mapRoom done)
+pub bytes-fit : (z : Settings) (pixels : List ℕ) (tileSpace mapSpace : ℕ) → convertSays z pixels tileSpace mapSpace ≡ 0
+    → (length (tileBytes z pixels) ≤ tileSpace) × (length (mapBytes z pixels) ≤ mapSpace)
+bytes-fit z pixels tileSpace mapSpace done = (tiles-fit z pixels tileSpace mapSpace done, map-fits z pixels tileSpace mapSpace done)
 
--- ---- what a picture stores, names and discards
+-- ---- what a picture stores, names and discards, whatever the size of its tiles
 
-module _ (z : Settings) (pixels : List ℕ) where
-  on-apart : (discard : Bool) → discard ≡ true → Apart (z .flip) 8 8 (kept discard (z .flip) 8 8 (pictureTiles z pixels))
+module _ (w h : ℕ) (some : 0 < w) (z : Settings) (pixels : List ℕ) where
+  on-apart : (discard : Bool) → discard ≡ true → Apart (z .flip) w h (kept discard (z .flip) w h (pictureTiles w h z pixels))
   on-apart discard on =
-      subst (λ (b : Bool). Apart (z .flip) 8 8 (kept b (z .flip) 8 8 (pictureTiles z pixels))) (sym on) (kept-apart (z .flip) 8 8 (pictureTiles z pixels))
+      subst (λ (b : Bool). Apart (z .flip) w h (kept b (z .flip) w h (pictureTiles w h z pixels))) (sym on) (kept-apart (z .flip) w h (pictureTiles w h z pixels))
 
   -- with discarding on, no two stored tiles match
-  pub no-two-match : z .discard ≡ true → Apart (z .flip) 8 8 (storedOf z pixels)
+  pub no-two-match : z .discard ≡ true → Apart (z .flip) w h (storedOf w h z pixels)
   unfolding storedOf
   no-two-match on = on-apart (z .discard) on
 
   -- every tile is found among those stored, so that its entry names one
-  pub all-named : (i : ℕ) → i < places z → isFound (foundAt z pixels i) ≡ true
-  all-named i lt = is-found z pixels i lt
+  pub all-named : (i : ℕ) → i < places z → isFound (foundAt w h z pixels i) ≡ true
+  all-named i lt = is-found w h some z pixels i lt
 
   -- "as by adding": an entry has the place and flip that a look-up finds right after its tile was taken
   pub named-when-taken : (i : ℕ) → i < places z
-      → foundAt z pixels i
-      ≡ lookUp (z .flip) 8 8 (kept (z .discard) (z .flip) 8 8 (cutTiles (z .depth) 8 8 (z .columns) pixels (suc i))) (cutTile (z .depth) 8 8 (z .columns) pixels i)
-  named-when-taken i lt = found-taken z pixels i lt
+      → foundAt w h z pixels i
+      ≡ lookUp (z .flip) w h (kept (z .discard) (z .flip) w h (cutTiles (z .depth) w h (z .columns) pixels (suc i))) (cutTile (z .depth) w h (z .columns) pixels i)
+  named-when-taken i lt = found-taken w h some z pixels i lt
 
   -- need, counted from the pixels alone, is the number of tiles stored
-  pub stored-needed : length (storedOf z pixels) ≡ needOf z pixels
-  stored-needed = stored-need z pixels
+  pub stored-needed : length (storedOf w h z pixels) ≡ needOf w h z pixels
+  stored-needed = stored-need w h some z pixels
 
   -- each tile is stored or discarded
-  pub all-counted : length (storedOf z pixels) + discardedOf z pixels ≡ places z
-  all-counted = stored-discarded z pixels
+  pub all-counted : length (storedOf w h z pixels) + discardedOf w h z pixels ≡ places z
+  all-counted = stored-discarded w h some z pixels
 
   -- with discarding off, none is discarded and all are stored
-  pub none-discarded : z .discard ≡ false → discardedOf z pixels ≡ 0
+  pub none-discarded : z .discard ≡ false → discardedOf w h z pixels ≡ 0
   unfolding discardedOf
   none-discarded off =
-      ap (λ (b : Bool). discarded b (z .flip) 8 8 (pictureTiles z pixels)) off ∙ off-none (z .flip) 8 8 (pictureTiles z pixels)
+      ap (λ (b : Bool). discarded b (z .flip) w h (pictureTiles w h z pixels)) off ∙ off-none (z .flip) w h (pictureTiles w h z pixels)
 
-  pub all-stored : z .discard ≡ false → length (storedOf z pixels) ≡ places z
+  pub all-stored : z .discard ≡ false → length (storedOf w h z pixels) ≡ places z
   all-stored off = omega (arith, all-counted, none-discarded off)
 
 -- ---- "no room for the tiles": 12 and 0 are given exactly when no earlier check applies and need is above room, or is not
 
-module _ (z : Settings) (pixels : List ℕ) (tileRoom mapRoom : ℕ) where
-  -- what the five checks before the room's answer
+module _ (z : Settings) (pixels : List ℕ) (tileSpace mapSpace : ℕ) where
+  -- what the checks before the room's answer
   abbrev pub earlier : ℕ
-  earlier = firstApplying (take 5 (convertChecks z pixels tileRoom mapRoom))
+  earlier = firstApplying (askedChecks z (length pixels) mapSpace)
 
-  pub refused-for-room : (convertSays z pixels tileRoom mapRoom ≡ 12 → (earlier ≡ 0) × (pictureRoom z tileRoom < needOf z pixels))
-      × (earlier ≡ 0 → pictureRoom z tileRoom < needOf z pixels → convertSays z pixels tileRoom mapRoom ≡ 12)
+  pub refused-for-room : (convertSays z pixels tileSpace mapSpace ≡ 12 → (earlier ≡ 0) × (pictureRoom z tileSpace < needOf 8 8 z pixels))
+      × (earlier ≡ 0 → pictureRoom z tileSpace < needOf 8 8 z pixels → convertSays z pixels tileSpace mapSpace ≡ 12)
   unfolding askedSays
-  refused-for-room = (convert-full z pixels tileRoom mapRoom, λ a lt. sym (convert-12 z pixels tileRoom mapRoom a lt))
+  refused-for-room = (convert-full z pixels tileSpace mapSpace, λ a lt. sym (convert-12 z pixels tileSpace mapSpace a lt))
 
-  pub done-with-room : (convertSays z pixels tileRoom mapRoom ≡ 0 → (earlier ≡ 0) × (needOf z pixels ≤ pictureRoom z tileRoom))
-      × (earlier ≡ 0 → needOf z pixels ≤ pictureRoom z tileRoom → convertSays z pixels tileRoom mapRoom ≡ 0)
+  pub done-with-room : (convertSays z pixels tileSpace mapSpace ≡ 0 → (earlier ≡ 0) × (needOf 8 8 z pixels ≤ pictureRoom z tileSpace))
+      × (earlier ≡ 0 → needOf 8 8 z pixels ≤ pictureRoom z tileSpace → convertSays z pixels tileSpace mapSpace ≡ 0)
   unfolding askedSays
-  done-with-room = (convert-passed z pixels tileRoom mapRoom, convert-0 z pixels tileRoom mapRoom)
+  done-with-room = (convert-passed z pixels tileSpace mapSpace, convert-0 z pixels tileSpace mapSpace)
 
 -- ---- the same over what a caller sees of a conversion that answers 0: its answer, and the buffers as it leaves them
 
@@ -117,6 +121,10 @@ front : (n : ℕ) (bytes before after : List ℕ) (k : ℕ) → n ≡ 0 → k �
 front n bytes before after k z e q =
     ap (λ (l : List ℕ). take k l) (q ∙ when-done n (overwrite before bytes) before z)
     ∙ take-at bytes (drop (length bytes) before) k (sym (e ∙ when-done n (length bytes) 0 z))
+
+-- so many tiles, unpacked from their bytes
+abbrev pub unpackedTiles : Settings → List ℕ → ℕ → List (List ℕ)
+unpackedTiles z bytes count = map (unpacked (z .mode) (z .depth) 8 8) (tilesIn (z .depth * 8) bytes count)
 
 module _ (z : Settings) (pixels tiles map : List ℕ) (r : Picture) (tilesAfter mapAfter : List ℕ) (done : Done z pixels tiles map r tilesAfter mapAfter) where
   says-0 : convertSays z pixels (length tiles) (length map) ≡ 0
@@ -134,17 +142,27 @@ module _ (z : Settings) (pixels tiles map : List ℕ) (r : Picture) (tilesAfter 
       (ap (λ (x : Picture). x .«map_bytes») (done .0 .answer)) (done .0 .alsoLent)
 
   -- redrawing the written parts is accepted, and gives the picture, cut to the depth
-  pub redrawn-written : (room : ℕ) → 64 * places z ≤ room
-      → (redrawSays (z .mode) (z .depth) (z .columns) (z .rows) (take (r .«tile_bytes») tilesAfter) (take (r .«map_bytes») mapAfter) room ≡ 0)
+  pub redrawn-written : (space : ℕ) → 64 * places z ≤ space
+      → (redrawSays (z .mode) (z .depth) (z .columns) (z .rows) (take (r .«tile_bytes») tilesAfter) (take (r .«map_bytes») mapAfter) space ≡ 0)
       × (drawn (z .mode) (z .depth) (z .columns) (z .rows) (take (r .«tile_bytes») tilesAfter) (take (r .«map_bytes») mapAfter) ≡ cutTo (z .depth) pixels)
-  redrawn-written room enough = rw (written-tiles, written-map) (redrawn-back z pixels (length tiles) (length map) room says-0 enough)
+  redrawn-written space enough = rw (written-tiles, written-map) (redrawn-back z pixels (length tiles) (length map) space says-0 enough)
 
   -- the counts of the answer
   pub counts : r .tiles + r .discarded ≡ places z
   counts =
       ap (λ (x : Picture). x .tiles + x .discarded) (done .0 .answer)
-      ∙ ap (λ (k : ℕ). unless k (length (storedOf z pixels)) 0 + unless k (discardedOf z pixels) 0) says-0
-      ∙ all-counted z pixels
+      ∙ ap (λ (k : ℕ). unless k (length (storedOf 8 8 z pixels)) 0 + unless k (discardedOf 8 8 z pixels) 0) says-0
+      ∙ all-counted 8 8 some-8 z pixels
+
+  -- with discarding on, no two of the tiles that a caller unpacks from the written bytes match
+  pub written-apart : z .discard ≡ true → Apart (z .flip) 8 8 (unpackedTiles z (take (r .«tile_bytes») tilesAfter) (r .tiles))
+  written-apart on =
+      let count : r .tiles ≡ length (storedOf 8 8 z pixels) = ap (λ (x : Picture). x .tiles) (done .0 .answer) ∙ ap (λ (k : ℕ). unless k (length (storedOf 8 8 z pixels)) 0) says-0 in
+      subst (Apart (z .flip) 8 8)
+      (sym (ap (unpackedTiles z (take (r .«tile_bytes») tilesAfter)) count
+      ∙ ap (λ (l : List ℕ). unpackedTiles z l (length (storedOf 8 8 z pixels))) written-tiles
+      ∙ tiles-back z pixels (length tiles) (length map) says-0))
+      (no-two-match 8 8 some-8 z pixels on)
 
 -- two conversions that left the same written bytes were of the same picture, cut to the depth
 pub alike-written : (z : Settings) (pixels tiles map : List ℕ) (r : Picture) (tilesAfter mapAfter : List ℕ) → Done z pixels tiles map r tilesAfter mapAfter
@@ -164,20 +182,79 @@ module _ (z : Settings) (pixels : List ℕ) (limit : ℕ) (store : List ℕ) (ps
   abbrev emptySet : Set
   emptySet = newSet (z .mode) (z .depth) 8 8 (z .flip) (z .discard) limit
 
-  module _ (size : sizeSays (z .mode) (z .depth) (z .columns) (z .rows) ≡ 0) (cut : map (cutTo (z .depth)) ps ≡ pictureTiles z pixels)
-      (room : needOf z pixels ≤ roomIn emptySet (length store)) where
+  module _ (size : sizeSays (z .mode) (z .depth) (z .columns) (z .rows) ≡ 0) (cut : map (cutTo (z .depth)) ps ≡ pictureTiles 8 8 z pixels)
+      (room : needOf 8 8 z pixels ≤ roomIn emptySet (length store)) where
     -- every add is answered 0
     pub adds-accepted : adds emptySet store ps ≡ places z
     adds-accepted = tiles-accepted z pixels size limit store ps cut room
 
     -- and the set is left with the tiles that the picture stores, and the number that it discards
-    pub adds-store : setTiles (setAtEnd emptySet store ps) (storeAtEnd emptySet store ps) ≡ storedOf z pixels
+    pub adds-store : setTiles (setAtEnd emptySet store ps) (storeAtEnd emptySet store ps) ≡ storedOf 8 8 z pixels
     adds-store = tiles-stored z pixels size limit store ps cut room
 
-    pub adds-discard : setAtEnd emptySet store ps .discarded ≡ discardedOf z pixels
-    adds-discard = omega (arith, tiles-sum z pixels size limit store ps cut room, tiles-count z pixels size limit store ps cut room, all-counted z pixels)
+    pub adds-discard : setAtEnd emptySet store ps .discarded ≡ discardedOf 8 8 z pixels
+    adds-discard = omega (arith, tiles-sum z pixels size limit store ps cut room, tiles-count z pixels size limit store ps cut room, all-counted 8 8 some-8 z pixels)
+
+    -- and writing the set gives the picture's tile bytes
+    pub adds-write : tileBytes z pixels ≡ setBytes (setAtEnd emptySet store ps) (storeAtEnd emptySet store ps)
+    adds-write = tiles-bytes z pixels size limit store ps cut room
 
 -- the picture's tiles are such tiles
-pub tiles-cut-again : (z : Settings) (pixels : List ℕ) → map (cutTo (z .depth)) (pictureTiles z pixels) ≡ pictureTiles z pixels
+pub tiles-cut-again : (z : Settings) (pixels : List ℕ) → map (cutTo (z .depth)) (pictureTiles 8 8 z pixels) ≡ pictureTiles 8 8 z pixels
 unfolding pictureTiles
 tiles-cut-again z pixels = tiles-cut (z .depth) 8 8 (z .columns) pixels (places z)
+
+-- ---- over the answer of a call, refused or not
+
+module _ (z : Settings) (pixels tiles map : List ℕ) (r : Picture) (tilesAfter mapAfter : List ℕ)
+    (p : Converts (convertSays z pixels (length tiles) (length map)) z pixels tiles map r tilesAfter mapAfter) where
+  abbrev due : ℕ
+  due = convertSays z pixels (length tiles) (length map)
+
+  abbrev before : ℕ
+  before = earlier z pixels (length tiles) (length map)
+
+  answered : r .refusal ≡ due
+  answered = ap (λ (x : Picture). x .refusal) (p .answer)
+
+  -- 12 is answered exactly when no check before the last refuses and the need is above the room
+  pub answers-12 : (r .refusal ≡ 12 → (before ≡ 0) × (pictureRoom z (length tiles) < needOf 8 8 z pixels))
+      × (before ≡ 0 → pictureRoom z (length tiles) < needOf 8 8 z pixels → r .refusal ≡ 12)
+  answers-12 =
+      let room = refused-for-room z pixels (length tiles) (length map) in
+      (λ e. room .0 (sym answered ∙ e), λ passed above. answered ∙ room .1 passed above)
+
+  -- a refused call leaves both buffers as they were
+  pub refused-kept : (r .refusal ≡ 0 → ⊥) → (tilesAfter ≡ tiles) × (mapAfter ≡ map)
+  refused-kept refused =
+      let no : due ≡ 0 → ⊥ = λ e. refused (answered ∙ e) in
+      (p .lent ∙ when-refused due (overwrite tiles (tileBytes z pixels)) tiles no, p .alsoLent ∙ when-refused due (overwrite map (mapBytes z pixels)) map no)
+
+-- a refused redrawing leaves the pixels as they were
+pub redraw-refused-kept : (m d columns rows : ℕ) (tiles map out : List ℕ) (w : Written) (after : List ℕ)
+    → Wrote (redrawSays m d columns rows tiles map (length out)) (drawn m d columns rows tiles map) out w after → (w .refusal ≡ 0 → ⊥) → after ≡ out
+redraw-refused-kept m d columns rows tiles map out w after q refused =
+    let due = redrawSays m d columns rows tiles map (length out) in
+    q .lent ∙ when-refused due (overwrite out (drawn m d columns rows tiles map)) out (λ e. refused (ap (λ (x : Written). x .refusal) (q .answer) ∙ e))
+
+-- a call of redraw on what a conversion wrote, with space for the pixels: it is done, and gives the picture, cut to the depth
+module _ (z : Settings) (pixels tiles map : List ℕ) (r : Picture) (tilesAfter mapAfter : List ℕ) (done : Done z pixels tiles map r tilesAfter mapAfter)
+    (out : List ℕ) (w : Written) (after : List ℕ) (space : 64 * places z ≤ length out) where
+  abbrev tilesWritten : List ℕ
+  tilesWritten = take (r .«tile_bytes») tilesAfter
+
+  abbrev mapWritten : List ℕ
+  mapWritten = take (r .«map_bytes») mapAfter
+
+  abbrev redrawDue : ℕ
+  redrawDue = redrawSays (z .mode) (z .depth) (z .columns) (z .rows) tilesWritten mapWritten (length out)
+
+  abbrev redrawn : List ℕ
+  redrawn = drawn (z .mode) (z .depth) (z .columns) (z .rows) tilesWritten mapWritten
+
+  pub redraw-gives : Wrote redrawDue redrawn out w after → (w .refusal ≡ 0) × (take (w .written) after ≡ cutTo (z .depth) pixels)
+  redraw-gives q =
+      let back = redrawn-written z pixels tiles map r tilesAfter mapAfter done (length out) space in (
+        ap (λ (x : Written). x .refusal) (q .answer) ∙ back .0,
+        front redrawDue redrawn out after (w .written) (back .0) (ap (λ (x : Written). x .written) (q .answer)) (q .lent) ∙ back .1,
+      )

@@ -1,29 +1,21 @@
 -- A tile is taken out of a picture row by row.
 -- Assumes nothing.
 use mathlib.Core.Path.{_≡_, sym, ap, _∙_}
-use mathlib.Core.List.{List, [], _∷_, _++_, append-nil}
+use mathlib.Core.List.{List, [], _∷_}
 use Prim.Native.Nat.{ℕ, _+_, _*_, _/_, _%_, _^_, _<_, _≤_}
 use native.Mathlib.Nat.{add-mul, mul-le-mul-right, mul-le-mul}
 use native.Mathlib.Omega.{arith}
-use lib.ListN.{length, getD, drop-of-length-le}
+use lib.ListN.{length, getD}
 use lib.Seq.{ext-getD}
 use Rattle.words.specs.Loops.{each}
 use Rattle.words.proofs.Items.{item-getD}
 use Rattle.words.proofs.Loops.{length-each}
-use Rattle.tileset.proofs.WritingLaws.{Filling, fill-all}
 use Rattle.picture.specs.Cells.{pixelAt, cutTile}
 use Rattle.picture.specs.Converting.{places}
 use Rattle.picture.specs.Inner.{IsPicture, HasTile}
 use Rattle.picture.specs.declared.Settings.{Settings}
 use Rattle.picture.proofs.Cells.{length-ones, number-at, cutTile-at, pixelAt-lt}
 use Rattle.picture.proofs.Kept.{length-cutTile}
-
--- items that fill a list are all of it
-pub fill-whole : {f : ℕ → List ℕ} {k : ℕ} {out now : List ℕ} {i n : ℕ} → ((j : ℕ) → length (f j) ≡ k) → Filling f k out i now → i ≡ n → length out ≡ n * k → now ≡ each n f
-fill-whole {f} {k} {out} {now} {i} {n} size h e whole =
-    fill-all size h e
-    ∙ ap (λ (l : List ℕ). each n f ++ l) (drop-of-length-le out {i = length (each n f)} (omega (arith, length-each n k f size)))
-    ∙ append-nil (each n f)
 
 -- ---- the rows of a tile
 

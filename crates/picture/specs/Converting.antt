@@ -19,31 +19,32 @@ use Rattle.tileset.specs.declared.Found.{Found}
 use Rattle.picture.specs.declared.Settings.{Settings}
 use Rattle.picture.specs.declared.Picture.{Picture}
 
--- Every tile of the picture, and those that it stores.
 abbrev pub places : Settings → ℕ
 places z = z .columns * z .rows
 
-unfoldable pub pictureTiles : Settings → List ℕ → List (List ℕ)
-pictureTiles z pixels = cutTiles (z .depth) 8 8 (z .columns) pixels (places z)
+-- Every tile of the picture, tiles being w wide and h high, and those that it stores.
+unfoldable pub pictureTiles : ℕ → ℕ → Settings → List ℕ → List (List ℕ)
+pictureTiles w h z pixels = cutTiles (z .depth) w h (z .columns) pixels (places z)
 
-unfoldable pub storedOf : Settings → List ℕ → List (List ℕ)
-storedOf z pixels = kept (z .discard) (z .flip) 8 8 (pictureTiles z pixels)
+unfoldable pub storedOf : ℕ → ℕ → Settings → List ℕ → List (List ℕ)
+storedOf w h z pixels = kept (z .discard) (z .flip) w h (pictureTiles w h z pixels)
 
-unfoldable pub needOf : Settings → List ℕ → ℕ
-needOf z pixels = need (z .discard) (z .flip) 8 8 (pictureTiles z pixels)
+unfoldable pub needOf : ℕ → ℕ → Settings → List ℕ → ℕ
+needOf w h z pixels = need (z .discard) (z .flip) w h (pictureTiles w h z pixels)
 
-unfoldable pub discardedOf : Settings → List ℕ → ℕ
-discardedOf z pixels = discarded (z .discard) (z .flip) 8 8 (pictureTiles z pixels)
+unfoldable pub discardedOf : ℕ → ℕ → Settings → List ℕ → ℕ
+discardedOf w h z pixels = discarded (z .discard) (z .flip) w h (pictureTiles w h z pixels)
 
--- Its tile bytes, and its map bytes.
+-- And where tile i is found among them.
+unfoldable pub foundAt : ℕ → ℕ → Settings → List ℕ → ℕ → Found
+foundAt w h z pixels i = lookUp (z .flip) w h (storedOf w h z pixels) (getD (pictureTiles w h z pixels) i [])
+
+-- Its tile bytes, and its map bytes: "A native tile (no other is packed) is 8x8".
 unfoldable pub tileBytes : Settings → List ℕ → List ℕ
-tileBytes z pixels = each (length (storedOf z pixels)) (λ k. packed (z .mode) (z .depth) 8 8 (getD (storedOf z pixels) k []))
-
-unfoldable pub foundAt : Settings → List ℕ → ℕ → Found
-foundAt z pixels i = lookUp (z .flip) 8 8 (storedOf z pixels) (getD (pictureTiles z pixels) i [])
+tileBytes z pixels = each (length (storedOf 8 8 z pixels)) (λ k. packed (z .mode) (z .depth) 8 8 (getD (storedOf 8 8 z pixels) k []))
 
 unfoldable pub mapBytes : Settings → List ℕ → List ℕ
-mapBytes z pixels = each (places z) (λ i. entryBytes (z .mode) (entryFor (z .palette) (foundAt z pixels i)))
+mapBytes z pixels = each (places z) (λ i. entryBytes (z .mode) (entryFor (z .mode) 8 8 (z .palette) (foundAt 8 8 z pixels i)))
 
 -- "Room is the least of the limit if not 0, 2^(tile bits), and whole tiles in the tile buffer", of so many bytes.
 unfoldable pub pictureRoom : Settings → ℕ → ℕ
@@ -69,20 +70,20 @@ sizeSays m d columns rows = firstApplying (sizeChecks m d columns rows)
 -- "Picture with flips on in a mode without flips" (5), "input length not the one required" (7), "a picture's palette index too large" (10),
 -- "output buffer shorter than the bytes to be written" (11, the map), "no room for the tiles" (12). In: the lengths of pixels, tile buffer and map.
 abbrev pub askedChecks : Settings → ℕ → ℕ → List ℕ
-askedChecks z len mapRoom =
-    sizeSays (z .mode) (z .depth) (z .columns) (z .rows)
-    ∷ 5 when (z .flip && eqb (row (z .mode) .flips) 0)
+askedChecks z len mapSpace =
+    sizeChecks (z .mode) (z .depth) (z .columns) (z .rows)
+    ++ 5 when (z .flip && eqb (row (z .mode) .flips) 0)
     ∷ 7 when not (eqb len (64 * places z))
     ∷ misfitSays (misfitOf (z .mode) (entryAs 0 (z .palette) false false))
-    ∷ 11 when ltb mapRoom (places z * row (z .mode) .entry)
+    ∷ 11 when ltb mapSpace (places z * row (z .mode) .entry)
     ∷ []
 
 abbrev pub convertChecks : Settings → List ℕ → ℕ → ℕ → List ℕ
-convertChecks z pixels tileRoom mapRoom =
-    askedChecks z (length pixels) mapRoom ++ 12 when ltb (pictureRoom z tileRoom) (needOf z pixels) ∷ []
+convertChecks z pixels tileSpace mapSpace =
+    askedChecks z (length pixels) mapSpace ++ 12 when ltb (pictureRoom z tileSpace) (needOf 8 8 z pixels) ∷ []
 
 unfoldable pub convertSays : Settings → List ℕ → ℕ → ℕ → ℕ
-convertSays z pixels tileRoom mapRoom = firstApplying (convertChecks z pixels tileRoom mapRoom)
+convertSays z pixels tileSpace mapSpace = firstApplying (convertChecks z pixels tileSpace mapSpace)
 
 -- "A refusal returns its number, all else returned 0."
 abbrev pub pictured : ℕ → ℕ → ℕ → ℕ → ℕ → Picture
@@ -97,7 +98,7 @@ pictured n tiles discarded tileLength mapLength =
 
 abbrev pub answerOf : ℕ → Settings → List ℕ → Picture
 answerOf n z pixels =
-    pictured n (length (storedOf z pixels)) (discardedOf z pixels) (length (tileBytes z pixels)) (length (mapBytes z pixels))
+    pictured n (length (storedOf 8 8 z pixels)) (discardedOf 8 8 z pixels) (length (tileBytes z pixels)) (length (mapBytes z pixels))
 
 -- The promise of a conversion: its answer, and both lent buffers as it leaves them.
 pub record Converts (refusal : ℕ) (z : Settings) (pixels tiles map : List ℕ) (r : Picture) (tilesAfter mapAfter : List ℕ) : Type 0 where

@@ -4,10 +4,12 @@ use mapentry::Mapentry;
 use mode::Mode;
 use tileset::Found;
 use tileset::Logical;
+use tileset::Native;
 use words::Written;
+use words::refusal;
 ghost use mathlib.Core.Path.{_≡_};
 ghost use mathlib.Core.Bool.{false, _&&_};
-ghost use mathlib.Core.List.{[], _∷_};
+ghost use mathlib.Core.List.{[], _∷_, _++_};
 ghost use Prim.Native.Nat.{_+_, _*_, _%_, _^_, _<_, _≤_};
 ghost use lib.Dec.{leb, eqb};
 ghost use lib.ListN.{length, getD, take, drop};
@@ -18,13 +20,12 @@ ghost use Rattle.mode.specs.Table.{row};
 ghost use Rattle.mapentry.specs.Entry.{misfitOf, misfitSays, entryBytes};
 ghost use Rattle.tile.specs.Tile.{packed};
 ghost use Rattle.flip.specs.Flips.{flipped};
-ghost use Rattle.tileset.specs.Finding.{tilesIn, isFound};
-ghost use Rattle.tileset.specs.Keeping.{keep};
+ghost use Rattle.tileset.specs.Finding.{tilesIn};
 ghost use Rattle.picture.specs.Cells.{cutTile};
-ghost use Rattle.picture.specs.Entries.{entryAs};
+ghost use Rattle.picture.specs.Entries.{entryAs, tileNamed};
 ghost use Rattle.picture.specs.Converting.{isSpan, sizeSays, pictureRoom, convertSays, pictured, Converts};
 ghost use Rattle.picture.specs.Redrawing.{entryAt, drawnTile, drawn, redrawSays};
-ghost use Rattle.picture.specs.Inner.{askedSays, HasTile, standing, codeOf, entryCoded, Keeps, TakenAs, Gathers, GatheredAs, PutsTiles, PutsMap, HasEntries, DrawsTile, DrawsStrip, Draws, stripOf, pixelLine, PutsLines};
+ghost use Rattle.picture.specs.Inner.{askedSays, HasTile, codeOf, entryCoded, Keeps, Stores, TakenAs, KeptAs, Gathers, GatheredAs, PutsTiles, PutsMap, PutsPicture, PutAs, HasEntries, DrawsTile, DrawsStrip, Draws, stripOf, pixelLine, PutsLines};
 
 // What a picture is converted by. Its size is counted in tiles.
 pub struct Settings {
@@ -62,19 +63,19 @@ fn size_says(mode: u32, depth: u32, columns: u32, rows: u32) -> u32
     ensures { λ r. ⌜ r ≡ sizeSays mode depth columns rows ⌝ }
 {
     if 15 < mode {
-        return 1;
+        return refusal::MODE;
     }
-    if mode == 10 {
-        return 2;
+    if mode == Mode::PCE_SPRITE.0 {
+        return refusal::PCE_SPRITE;
     }
     if !Mode(mode).has_depth(depth) {
-        return 3;
+        return refusal::DEPTH;
     }
     if !is_span(columns) {
-        return 4;
+        return refusal::SIZE;
     }
     if !is_span(rows) {
-        return 4;
+        return refusal::SIZE;
     }
     0
 }
@@ -106,32 +107,32 @@ fn palette_says(m: Mode, palette: u32) -> u32
 }
 
 // Every check of a conversion that counts no tiles.
-fn asked_says(settings: Settings, len: usize, room: usize) -> u32
-    ensures { λ r. ⌜ r ≡ askedSays settings len room ⌝ }
+fn asked_says(settings: Settings, len: usize, space: usize) -> u32
+    ensures { λ r. ⌜ r ≡ askedSays settings len space ⌝ }
 {
-    let refusal = size_says(
+    let number = size_says(
         settings.mode,
         settings.depth,
         settings.columns,
         settings.rows,
     );
-    if refusal != 0 {
-        return refusal;
+    if number != 0 {
+        return number;
     }
     let m = Mode(settings.mode);
     if lacks_flips(m, settings.flip) {
-        return 5;
+        return refusal::FLIPS;
     }
     let count = (settings.columns * settings.rows) as usize;
     if len != 64 * count {
-        return 7;
+        return refusal::LENGTH;
     }
     let misfit = palette_says(m, settings.palette);
     if misfit != 0 {
         return misfit;
     }
-    if room < count * mapentry::mapentry_size(m) {
-        return 11;
+    if space < count * mapentry::mapentry_size(m) {
+        return refusal::OUTPUT;
     }
     0
 }
@@ -187,51 +188,45 @@ fn take_tile(depth: u32, pixels: &[u8], columns: usize, i: usize) -> [u8; 64]
     tile
 }
 
-fn is_found(found: Found) -> bool
-    ensures { λ r. ⌜ r ≡ isFound found ⌝ }
-{
-    let Found::At(_, _) = found else {
-        return false;
-    };
-    true
-}
-
-// Whether a tile of which this was found is not stored.
-fn is_discarded(discard: bool, found: Found) -> bool
-    ensures { λ r. ⌜ r ≡ (discard && isFound found) ⌝ }
-{
-    if !discard {
-        return false;
-    }
-    is_found(found)
-}
-
 // A place with its flip as one number.
-fn code(place: Logical, f: Flip) -> u16
-    requires { ⌜ place .0 ≤ 4096 ⌝ }
-    ensures { λ r. ⌜ r ≡ codeOf (Found.At place f) ⌝ }
+fn code(tile: Logical, f: Flip) -> u16
+    requires { ⌜ tile .0 ≤ 4096 ⌝ }
+    ensures { λ r. ⌜ r ≡ codeOf (Found.At tile f) ⌝ }
 {
-    (place.0 * 4 + words::flag(f.h) + 2 * words::flag(f.v)) as u16
-}
-
-// Where a tile stands: where it was found, or after the others.
-fn code_of(found: Found, count: usize) -> u16
-    requires { ⌜ codeOf (standing found count) < 16388 ⌝ }
-    ensures { λ r. ⌜ r ≡ codeOf (standing found count) ⌝ }
-{
-    let Found::At(place, f) = found else {
-        return (count * 4) as u16;
-    };
-    code(place, f)
+    (tile.0 * 4 + words::flag(f.h) + 2 * words::flag(f.v)) as u16
 }
 
 // What becomes of a tile: how many are kept then, and the code of its place; or there is no room.
 enum Taken {
     Kept(usize, u16),
-    Full,
+    NoRoom,
 }
 
-// One tile more.
+// The tile goes at the end, where there is room; its place has this code.
+fn store_tile(
+    store: &mut [u8; 262144],
+    keys: &mut [u32; 4096],
+    heads: &mut [u16; 4096],
+    next: &mut [u16; 4096],
+    count: usize,
+    room: usize,
+    tile: &[u8; 64],
+    key: u32,
+    flips: bool,
+    found: Found,
+    code: u16,
+) -> Taken
+    requires { ⌜ Stores flips (now store) (now keys) (now heads) (now next) count room (now tile) key found ⌝ }
+    ensures { λ r. ⌜ TakenAs flips (tilesIn 64 (now (store .entry)) count ++ now (tile .entry) ∷ []) room code (now (store .exit)) (now (keys .exit)) (now (heads .exit)) (now (next .exit)) r ⌝ }
+{
+    if room <= count {
+        return Taken::NoRoom;
+    }
+    index::enter(store, keys, heads, next, count, tile, key, flips, found);
+    Taken::Kept(count + 1, code)
+}
+
+// One tile more: it is not stored where discarding is on and a stored one matches.
 fn keep_tile(
     store: &mut [u8; 262144],
     keys: &mut [u32; 4096],
@@ -244,52 +239,79 @@ fn keep_tile(
     discard: bool,
 ) -> Taken
     requires { ⌜ Keeps flips (now store) (now keys) (now heads) (now next) count room (now tile) ⌝ }
-    ensures { λ r. ⌜ TakenAs flips (keep discard flips 8 8 (tilesIn 64 (now (store .entry)) count) (now (tile .entry))) (now (tile .entry)) room (now (store .exit)) (now (keys .exit)) (now (heads .exit)) (now (next .exit)) r ⌝ }
+    ensures { λ r. ⌜ KeptAs discard flips (tilesIn 64 (now (store .entry)) count) (now (tile .entry)) room (now (store .exit)) (now (keys .exit)) (now (heads .exit)) (now (next .exit)) r ⌝ }
 {
     let key = index::key(tile, flips);
     let found = index::find(store, keys, heads, next, count, tile, key, flips);
-    if is_discarded(discard, found) {
-        return Taken::Kept(count, code_of(found, count));
+    let Found::At(place, f) = found else {
+        let last = code(Logical(count as u32), Flip { h: false, v: false });
+        return store_tile(
+            store,
+            keys,
+            heads,
+            next,
+            count,
+            room,
+            tile,
+            key,
+            flips,
+            found,
+            last,
+        );
+    };
+    let first = code(place, f);
+    if discard {
+        return Taken::Kept(count, first);
     }
-    if room <= count {
-        return Taken::Full;
-    }
-    index::enter(store, keys, heads, next, count, tile, key, flips, found);
-    Taken::Kept(count + 1, code_of(found, count))
+    store_tile(
+        store,
+        keys,
+        heads,
+        next,
+        count,
+        room,
+        tile,
+        key,
+        flips,
+        found,
+        first,
+    )
 }
 
-// How many tiles a picture keeps; or there is no room for them.
+// How many tiles are kept; or there is no room for them.
 enum Gathered {
     Count(usize),
     NoRoom,
 }
 
-// The tiles that a picture keeps, and the code of each tile's place among them.
+// The tiles that are kept of a picture's tiles from first on, up to end, after those that are there already; and the code of each tile's place among them.
 fn gather(
     settings: Settings,
     pixels: &[u8],
+    first: usize,
+    end: usize,
+    count: usize,
     room: usize,
     store: &mut [u8; 262144],
-    codes: &mut [u16],
+    keys: &mut [u32; 4096],
+    heads: &mut [u16; 4096],
+    next: &mut [u16; 4096],
+    codes: &mut [u16; 4096],
 ) -> Gathered
-    requires { ⌜ Gathers settings (now pixels) room (now codes) ⌝ }
-    ensures { λ r. ⌜ GatheredAs settings (now (pixels .entry)) room (now (store .exit)) (now (codes .exit)) r ⌝ }
+    requires { ⌜ Gathers settings (now pixels) first end count room (now store) (now keys) (now heads) (now next) (now codes) ⌝ }
+    ensures { λ r. ⌜ GatheredAs settings (now (pixels .entry)) (tilesIn 64 (now (store .entry)) count) first end room (now (store .exit)) (now (keys .exit)) (now (heads .exit)) (now (next .exit)) (now (codes .exit)) r ⌝ }
 {
-    let mut keys = [0u32; 4096];
-    let mut heads = [0u16; 4096];
-    let mut next = [0u16; 4096];
     let columns = settings.columns as usize;
-    let n = columns * settings.rows as usize;
-    let mut count = 0;
-    let mut i = 0;
-    while i < n {
+    let mut kept = count;
+    let mut i = first;
+    while i < end {
         let tile = take_tile(settings.depth, pixels, columns, i);
         let Taken::Kept(more, place) = keep_tile(
             store,
-            &mut keys,
-            &mut heads,
-            &mut next,
-            count,
+            keys,
+            heads,
+            next,
+            kept,
             room,
             &tile,
             settings.flip,
@@ -298,10 +320,10 @@ fn gather(
             return Gathered::NoRoom;
         };
         codes[i] = place;
-        count = more;
+        kept = more;
         i += 1;
     }
-    Gathered::Count(count)
+    Gathered::Count(kept)
 }
 
 // The bytes of so many stored tiles.
@@ -318,13 +340,14 @@ fn put_tiles(mode: u32, depth: u32, store: &[u8; 262144], count: usize, tiles: &
     }
 }
 
-// The entry of a coded place.
-fn entry_coded(palette: u32, code: u16) -> Mapentry
-    ensures { λ r. ⌜ r ≡ entryCoded palette code ⌝ }
+// The entry of a coded place: it names the tile by its native number.
+fn entry_coded(mode: u32, palette: u32, code: u16) -> Mapentry
+    ensures { λ r. ⌜ r ≡ entryCoded mode palette code ⌝ }
 {
     let number = code as u32;
+    let cell = tileset::numbers::first_cell(mode, 8, 8, Logical(number / 4));
     Mapentry {
-        tile: number / 4,
+        tile: cell.0,
         palette,
         flip_h: number % 2 == 1,
         flip_v: number / 2 % 2 == 1,
@@ -332,16 +355,23 @@ fn entry_coded(palette: u32, code: u16) -> Mapentry
     }
 }
 
+// And back: the tile that an entry names.
+fn tile_named(mode: u32, e: Mapentry) -> Logical
+    ensures { λ r. ⌜ r .0 ≡ tileNamed mode 8 8 e ⌝ }
+{
+    tileset::numbers::tile_of(mode, 8, 8, Native(e.tile))
+}
+
 // The bytes of so many entries.
 fn put_map(mode: u32, palette: u32, codes: &[u16; 4096], count: usize, map: &mut [u8])
     requires { ⌜ PutsMap mode palette count (now codes) (now map) ⌝ }
-    ensures { λ _. ⌜ now (map .exit) ≡ overwrite (now (map .entry)) (each count (λ i. entryBytes mode (entryCoded palette (getD (now (codes .entry)) i 0)))) ⌝ }
+    ensures { λ _. ⌜ now (map .exit) ≡ overwrite (now (map .entry)) (each count (λ i. entryBytes mode (entryCoded mode palette (getD (now (codes .entry)) i 0)))) ⌝ }
 {
     let m = Mode(mode);
     let size = mapentry::mapentry_size(m);
     let mut i = 0;
     while i < count {
-        mapentry::put_entry(m, entry_coded(palette, codes[i]), map, i * size);
+        mapentry::put_entry(m, entry_coded(mode, palette, codes[i]), map, i * size);
         i += 1;
     }
 }
@@ -358,26 +388,23 @@ fn no_picture(refusal: u32) -> Picture
     }
 }
 
-// Converts a picture. Its tiles are gathered first, so that a refusal leaves every lent byte as it was: 264 KiB of stack here and 32 for
-// their index, 296 in all.
-pub fn convert(settings: Settings, pixels: &[u8], tiles: &mut [u8], map: &mut [u8]) -> Picture
-    ensures { λ r. ⌜ Converts (convertSays settings (now (pixels .entry)) (length (now (tiles .entry))) (length (now (map .entry)))) settings (now (pixels .entry)) (now (tiles .entry)) (now (map .entry)) r (now (tiles .exit)) (now (map .exit)) ⌝ }
+// Both buffers, and the answer.
+fn put_picture(
+    settings: Settings,
+    store: &[u8; 262144],
+    codes: &[u16; 4096],
+    count: usize,
+    tiles: &mut [u8],
+    map: &mut [u8],
+) -> Picture
+    requires { ⌜ PutsPicture settings count (now codes) (now tiles) (now map) ⌝ }
+    ensures { λ r. ⌜ PutAs settings (now (store .entry)) (now (codes .entry)) count (now (tiles .entry)) (now (map .entry)) r (now (tiles .exit)) (now (map .exit)) ⌝ }
 {
-    let refusal = asked_says(settings, pixels.len(), map.len());
-    if refusal != 0 {
-        return no_picture(refusal);
-    }
-    let mut store = [0u8; 262144];
-    let mut codes = [0u16; 4096];
-    let room = picture_room(settings, tiles.len());
-    let Gathered::Count(count) = gather(settings, pixels, room, &mut store, &mut codes) else {
-        return no_picture(12);
-    };
-    put_tiles(settings.mode, settings.depth, &store, count, tiles);
     let places = (settings.columns * settings.rows) as usize;
-    put_map(settings.mode, settings.palette, &codes, places, map);
     let size = (settings.depth * 8) as usize;
     let entry = mapentry::mapentry_size(Mode(settings.mode));
+    put_tiles(settings.mode, settings.depth, store, count, tiles);
+    put_map(settings.mode, settings.palette, codes, places, map);
     Picture {
         refusal: 0,
         tiles: count as u32,
@@ -387,17 +414,50 @@ pub fn convert(settings: Settings, pixels: &[u8], tiles: &mut [u8], map: &mut [u
     }
 }
 
+// Converts a picture. Its tiles are gathered first, so that a refusal leaves every lent byte as it was: 264 KiB of stack, and 32 for their index.
+pub fn convert(settings: Settings, pixels: &[u8], tiles: &mut [u8], map: &mut [u8]) -> Picture
+    ensures { λ r. ⌜ Converts (convertSays settings (now (pixels .entry)) (length (now (tiles .entry))) (length (now (map .entry)))) settings (now (pixels .entry)) (now (tiles .entry)) (now (map .entry)) r (now (tiles .exit)) (now (map .exit)) ⌝ }
+{
+    let number = asked_says(settings, pixels.len(), map.len());
+    if number != 0 {
+        return no_picture(number);
+    }
+    let mut store = [0u8; 262144];
+    let mut keys = [0u32; 4096];
+    let mut heads = [0u16; 4096];
+    let mut next = [0u16; 4096];
+    let mut codes = [0u16; 4096];
+    let room = picture_room(settings, tiles.len());
+    let end = (settings.columns * settings.rows) as usize;
+    let Gathered::Count(count) = gather(
+        settings,
+        pixels,
+        0,
+        end,
+        0,
+        room,
+        &mut store,
+        &mut keys,
+        &mut heads,
+        &mut next,
+        &mut codes,
+    ) else {
+        return no_picture(refusal::ROOM);
+    };
+    put_picture(settings, &store, &codes, count, tiles, map)
+}
+
 // Whether one of so many entries names a tile that is not among so many.
 fn names_more(mode: u32, map: &[u8], count: usize, tiles: usize) -> bool
     requires { ⌜ HasEntries mode count (now map) ⌝ }
-    ensures { λ r. ⌜ r ≡ some count (λ i. leb tiles (entryAt mode (now (map .entry)) i .tile)) ⌝ }
+    ensures { λ r. ⌜ r ≡ some count (λ i. leb tiles (tileNamed mode 8 8 (entryAt mode (now (map .entry)) i))) ⌝ }
 {
     let m = Mode(mode);
     let size = mapentry::mapentry_size(m);
     let mut i = 0;
     while i < count {
         let e = mapentry::get_entry(m, map, i * size);
-        if tiles <= e.tile as usize {
+        if tiles <= tile_named(mode, e).0 as usize {
             return true;
         }
         i += 1;
@@ -412,27 +472,27 @@ fn redraw_says(
     rows: u32,
     tiles: &[u8],
     map: &[u8],
-    room: usize,
+    space: usize,
 ) -> u32
-    ensures { λ r. ⌜ r ≡ redrawSays mode depth columns rows (now (tiles .entry)) (now (map .entry)) room ⌝ }
+    ensures { λ r. ⌜ r ≡ redrawSays mode depth columns rows (now (tiles .entry)) (now (map .entry)) space ⌝ }
 {
-    let refusal = size_says(mode, depth, columns, rows);
-    if refusal != 0 {
-        return refusal;
+    let number = size_says(mode, depth, columns, rows);
+    if number != 0 {
+        return number;
     }
     let size = (depth * 8) as usize;
     if tiles.len() % size != 0 {
-        return 7;
+        return refusal::LENGTH;
     }
     let count = (columns * rows) as usize;
     if map.len() != count * mapentry::mapentry_size(Mode(mode)) {
-        return 7;
+        return refusal::LENGTH;
     }
     if names_more(mode, map, count, tiles.len() / size) {
-        return 7;
+        return refusal::LENGTH;
     }
-    if room < 64 * count {
-        return 11;
+    if space < 64 * count {
+        return refusal::OUTPUT;
     }
     0
 }
@@ -457,7 +517,7 @@ fn draw_tile(mode: u32, depth: u32, tiles: &[u8], e: Mapentry, out: &mut [u8], a
 {
     let mut tile = [0u8; 64];
     let p = tile::packing_of(Mode(mode), depth, 8, 8);
-    let from = e.tile as usize * (depth * 8) as usize;
+    let from = tile_named(mode, e).0 as usize * (depth * 8) as usize;
     tile::put_pixels(p, tiles, from, &mut tile, 0);
     put_flipped(
         &tile,
@@ -551,9 +611,9 @@ pub fn redraw(
 ) -> Written
     ensures { λ r. ⌜ Wrote (redrawSays mode depth columns rows (now (tiles .entry)) (now (map .entry)) (length (now (out .entry)))) (drawn mode depth columns rows (now (tiles .entry)) (now (map .entry))) (now (out .entry)) r (now (out .exit)) ⌝ }
 {
-    let refusal = redraw_says(mode, depth, columns, rows, tiles, map, out.len());
-    if refusal != 0 {
-        return words::refused(refusal);
+    let number = redraw_says(mode, depth, columns, rows, tiles, map, out.len());
+    if number != 0 {
+        return words::refused(number);
     }
     draw(
         mode,

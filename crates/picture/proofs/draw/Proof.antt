@@ -1,23 +1,24 @@
 -- The first y rows of tiles are drawn.
-use mathlib.Core.Path.{_≡_, refl, sym, ap, _∙_}
+use mathlib.Core.Path.{_≡_, refl, ap, _∙_}
 use mathlib.Core.List.{List}
-use Prim.Native.Nat.{ℕ, _≤_, _-_, _*_}
-use native.Mathlib.Nat.{mul-le-mul, mul-comm, zero-add}
+use Prim.Native.Nat.{ℕ, _≤_, _-_, _+_, _*_}
+use native.Mathlib.Nat.{mul-le-mul, mul-comm}
 use native.Mathlib.Omega.{arith}
 use lib.ListN.{length}
 use lib.Seq.{sets, length-sets}
 use denote.Ref.{now}
+use Rattle.words.specs.Answers.{overwrite}
+use Rattle.words.proofs.Filling.{Filled, filled-none, filled-front}
 use Rattle.words.proofs.Items.{item-inside}
-use Rattle.words.proofs.Loops.{sets-front}
-use Rattle.picture.specs.Redrawing.{drawn}
 use Rattle.picture.specs.Inner.{stripOf}
-use Rattle.picture.proofs.Drawing.{Spreading, spread-none, spread-more, spread-all, rowDrawn, row-length, lines-are, rows-are, picture-length, strip-asks, row-room}
+use Rattle.picture.proofs.Cells.{filled-next}
+use Rattle.picture.proofs.Drawing.{rowDrawn, row-length, lines-are, rows-are, strip-asks, row-space}
 use borrow.Author.Needs.{needs}
 use Rattle.picture.proofs.draw.Statement.{statement}
 use Rattle.picture.proofs.draw.Tie as tie
 
 abbrev Inv-loop : tie.InvT-loop
-Inv-loop mode depth columns rows tiles map out₀ strip₀ y₀ out strip y = (y ≤ rows) × Spreading (rowDrawn mode depth columns tiles map) out₀ 0 y out × (length strip ≡ 4096)
+Inv-loop mode depth columns rows tiles map out₀ strip₀ y₀ out strip y = (y ≤ rows) × Filled (rowDrawn mode depth columns tiles map) out₀ 0 y out × (length strip ≡ 4096)
 
 abbrev μ-loop : tie.MeasureT-loop
 μ-loop mode depth columns rows tiles map out₀ strip₀ y₀ out strip y = rows - y
@@ -25,43 +26,60 @@ abbrev μ-loop : tie.MeasureT-loop
 few : (c : tie.Start Inv-loop μ-loop) → c .args .columns * c .args .rows ≤ 4096
 few c = mul-le-mul {n₁ = c .args .columns} {m₁ = c .args .rows} {n₂ = 64} {m₂ = 64} (c .pre .narrow) (c .pre .low)
 
+-- a turn of the loop
+module _ (c : tie.In-loop Inv-loop μ-loop) where
+  abbrev start : tie.Start Inv-loop μ-loop
+  start = c .before .before .before .before .before
+
+  space : let a = start .args in c .before .loop .y * (8 * (a .columns * 8)) + 8 * (a .columns * 8) ≤ 64 * (a .columns * a .rows)
+  space = row-space (start .args .columns) (start .args .rows) (c .before .loop .y) (c .loop-test .taken)
+
+-- the row of tiles that is drawn
+module _ (c : tie.After-draw-strip Inv-loop μ-loop) where
+  abbrev strip : List ℕ
+  strip = c .draw-strip .last .1 .1 .1 .1 .1 .1 .0
+
+  still : length strip ≡ 4096
+  still =
+      let t = c .before .before in
+      let a = start t .args in
+      let lp = t .before .loop in
+      ap length (c .draw-strip .ensures) ∙ length-sets (lp .strip) 0 (stripOf (a .mode) (a .depth) (a .columns) (lp .y * a .columns) (now (a .tiles)) (now (a .map))) ∙ lp .inv .2
+
 loop-holds : tie.Need-loop-holds Inv-loop μ-loop
-loop-holds c = (omega arith, spread-none _ _ _, refl)
+loop-holds c = (omega arith, filled-none _ _ _, refl)
 
 mul-draw-strip : tie.Need-mul-draw-strip Inv-loop μ-loop
-mul-draw-strip c =
-    let a = c .before .before .before .before .before .args in
-    omega (arith, item-inside (a .columns) (a .rows) (c .before .loop .y) (c .loop-test .taken), mul-comm (a .columns) (a .rows), few (c .before .before .before .before .before))
+mul-draw-strip c = let a = start c .args in omega (arith, item-inside (a .columns) (a .rows) (c .before .loop .y) (c .loop-test .taken), mul-comm (a .columns) (a .rows), few (start c))
 
 slice-aggregate-draw-strip : tie.Need-slice-aggregate-draw-strip Inv-loop μ-loop
 slice-aggregate-draw-strip c = search needs
 
 draw-strip-requires : tie.Need-draw-strip-requires Inv-loop μ-loop
-draw-strip-requires c κs = strip-asks (c .before .before .before .before .before .before .pre) (c .before .before .loop .y) (c .before .loop-test .taken) (omega (arith, c .before .before .before .before .before .before .pre .narrow, c .before .before .loop .inv .2)) (few (c .before .before .before .before .before .before))
+draw-strip-requires c κs =
+    let t = c .before in
+    strip-asks (start t .pre) (t .before .loop .y) (t .loop-test .taken) (omega (arith, start t .pre .narrow, t .before .loop .inv .2)) (few (start t))
 
 slice-aggregate-put-lines : tie.Need-slice-aggregate-put-lines Inv-loop μ-loop
 slice-aggregate-put-lines c = search needs
 
 mul-put-lines : tie.Need-mul-put-lines Inv-loop μ-loop
-mul-put-lines c = omega (arith, c .before .before .before .before .before .before .before .before .before .before .pre .narrow)
+mul-put-lines c = omega (arith, start (c .before .before .before .before .before) .pre .narrow)
 
 mul-put-lines-2 : tie.Need-mul-put-lines-2 Inv-loop μ-loop
-mul-put-lines-2 c = omega (arith, c .before .before .before .before .before .before .before .before .before .before .pre .narrow)
+mul-put-lines-2 c = omega (arith, start (c .before .before .before .before .before) .pre .narrow)
 
 mul-put-lines-3 : tie.Need-mul-put-lines-3 Inv-loop μ-loop
-mul-put-lines-3 c = let a = c .before .before .before .before .before .before .before .before .before .before .args in omega (arith, row-room (a .columns) (a .rows) (c .before .before .before .before .before .before .loop .y) (c .before .before .before .before .before .loop-test .taken), few (c .before .before .before .before .before .before .before .before .before .before))
+mul-put-lines-3 c = let t = c .before .before .before .before .before in omega (arith, space t, few (start t))
 
 put-lines-requires : tie.Need-put-lines-requires Inv-loop μ-loop
 put-lines-requires c κs =
-    let s = c .before .before .before .before .before .before .before .before .before .before in
-    let a = s .args in
-    let lp = c .before .before .before .before .before .before .loop in
-    let same : length (c .before .before .before .draw-strip .last .1 .1 .1 .1 .1 .1 .0) ≡ 4096 =
-    ap length (c .before .before .before .draw-strip .ensures) ∙ length-sets (lp .strip) 0 (stripOf (a .mode) (a .depth) (a .columns) (lp .y * a .columns) (now (a .tiles)) (now (a .map))) ∙ lp .inv .2 in
+    let t = c .before .before .before .before .before in
+    let p = start t .pre in
     record {
-      narrow = s .pre .narrow;
-      long = omega (arith, same, s .pre .narrow);
-      room = omega (arith, row-room (a .columns) (a .rows) (lp .y) (c .before .before .before .before .before .loop-test .taken), s .pre .room, lp .inv .1 .long);
+      narrow = p .narrow;
+      long = omega (arith, still (c .before .before .before), p .narrow);
+      space = omega (arith, space t, p .space, t .before .loop .inv .1 .long);
     }
 
 add-y : tie.Need-add-y Inv-loop μ-loop
@@ -72,17 +90,17 @@ loop-less c = search needs
 
 loop-again : tie.Need-loop-again Inv-loop μ-loop
 loop-again c =
-    let s = c .before .before .before .before .before .before .before .before .before .before .before .before .before in
-    let a = s .args in
-    let lp = c .before .before .before .before .before .before .before .before .before .loop in
-    let strip = c .before .before .before .before .before .before .draw-strip .last .1 .1 .1 .1 .1 .1 .0 in
+    let d = c .before .before .before .before .before .before in
+    let t = d .before .before in
+    let a = start t .args in
+    let lp = t .before .loop in
     let k = 8 * (a .columns * 8) in
-    let row = rowDrawn (a .mode) (a .depth) (a .columns) (now (a .tiles)) (now (a .map)) (lp .y) in
-    let lines = lines-are (a .mode) (a .depth) (a .columns) (now (a .tiles)) (now (a .map)) (lp .strip) strip (lp .y) (omega (arith, lp .inv .2, s .pre .narrow)) (c .before .before .before .before .before .before .draw-strip .ensures) in (
-      omega (arith, c .before .before .before .before .before .before .before .before .loop-test .taken),
-      spread-more k (row-length (a .mode) (a .depth) (a .columns) (now (a .tiles)) (now (a .map))) (lp .inv .1)
-          (c .before .before .put-lines .ensures ∙ ap (λ (l : List ℕ). sets (lp .out) (lp .y * k) l) lines ∙ ap (λ (n : ℕ). sets (lp .out) n row) (sym (zero-add (lp .y * k)))),
-      ap length (c .before .before .before .before .before .before .draw-strip .ensures) ∙ length-sets (lp .strip) 0 (stripOf (a .mode) (a .depth) (a .columns) (lp .y * a .columns) (now (a .tiles)) (now (a .map))) ∙ lp .inv .2,
+    let lines = lines-are (a .mode) (a .depth) (a .columns) (now (a .tiles)) (now (a .map))
+    (lp .strip) (strip d) (lp .y) (omega (arith, lp .inv .2, start t .pre .narrow)) (d .draw-strip .ensures) in (
+      omega (arith, t .loop-test .taken),
+      filled-next k (row-length (a .mode) (a .depth) (a .columns) (now (a .tiles)) (now (a .map))) (lp .inv .1)
+          (c .before .before .put-lines .ensures ∙ ap (λ (l : List ℕ). sets (lp .out) (lp .y * k) l) lines),
+      still d,
     )
 
 same-length : tie.Need-same-length Inv-loop μ-loop
@@ -90,12 +108,11 @@ same-length c = c .before .loop .inv .1 .long
 
 returns : tie.Need-returns Inv-loop μ-loop
 returns c =
-    let a = c .before .before .before .before .before .args in
-    let e = rows-are (a .mode) (a .depth) (a .columns) (now (a .tiles)) (now (a .map)) (a .rows) in
-    let l = picture-length (a .mode) (a .depth) (a .columns) (now (a .tiles)) (now (a .map)) (a .rows) in
-    spread-all (a .rows) (c .before .loop .inv .1) (omega arith)
-    ∙ ap (λ (l : List ℕ). sets (now (a .out)) 0 l) e
-    ∙ sets-front (now (a .out)) (drawn (a .mode) (a .depth) (a .columns) (a .rows) (now (a .tiles)) (now (a .map))) (omega (arith, c .before .before .before .before .before .pre .room))
+    let s = c .before .before .before .before .before in
+    let a = s .args in
+    filled-front (8 * (a .columns * 8)) (a .rows) (row-length (a .mode) (a .depth) (a .columns) (now (a .tiles)) (now (a .map))) (c .before .loop .inv .1) (omega arith)
+    (omega (arith, s .pre .space, mul-comm (a .columns) (a .rows)))
+    ∙ ap (λ (l : List ℕ). overwrite (now (a .out)) l) (rows-are (a .mode) (a .depth) (a .columns) (now (a .tiles)) (now (a .map)) (a .rows))
 
 pub draw-spec : {M : Type 1} → statement M
 draw-spec =

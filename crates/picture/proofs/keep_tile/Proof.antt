@@ -1,9 +1,23 @@
--- A tile that is found is dropped with discarding on, and any other is stored.
-use mathlib.Core.Path.{sym, _∙_}
-use Rattle.picture.proofs.Storing.{code-small, take-discarded, take-full, take-stored}
+-- A tile that is found is discarded with discarding on, and any other is stored.
+use mathlib.Core.Path.{_≡_, sym, _∙_}
+use denote.Ref.{now}
+use Rattle.tileset.specs.Finding.{tilesIn, lookUp}
+use Rattle.tileset.specs.declared.Found.the-variants.{At}
+use Rattle.picture.proofs.Storing.{keep-none, place-few, keep-found, keep-again}
 use borrow.Author.Needs.{needs}
 use Rattle.picture.proofs.keep_tile.Statement.{statement}
 use Rattle.picture.proofs.keep_tile.Tie as tie
+
+-- where the function starts, seen from each arm, and what was found
+abbrev start-none : tie.After-enum-told → tie.Start
+start-none c = c .before .before .before .before .before .before .before .before
+
+abbrev start-found : tie.After-known-told → tie.Start
+start-found c = c .before .before .before .before .before .before .before .before .before
+
+there : (c : tie.After-known-told) → let a = start-found c .args in
+    lookUp (a .flips) 8 8 (tilesIn 64 (now (a .store)) (a .count)) (now (a .tile)) ≡ At (c .before .found .given .0 .0) (c .before .found .given .0 .1 .0)
+there c = sym (c .before .before .before .find .ensures) ∙ c .before .found .given .1
 
 key-requires : tie.Need-key-requires
 key-requires c κs = search needs
@@ -11,29 +25,48 @@ key-requires c κs = search needs
 find-requires : tie.Need-find-requires
 find-requires c κs = search needs
 
-is-discarded-requires : tie.Need-is-discarded-requires
-is-discarded-requires c κs = search needs
+enum-known-found : tie.Need-enum-known-found
+enum-known-found c = search needs
 
-code-of-requires : tie.Need-code-of-requires
-code-of-requires c κs = code-small (c .before .before .before .before .before .before .before .before .args .discard) (c .before .before .before .before .before .before .before .before .pre) (c .before .before .find .ensures)
+enum-told : tie.Need-enum-told
+enum-told c = search needs
+
+cast-t20 : tie.Need-cast-t20
+cast-t20 c = search needs
+
+code-requires : tie.Need-code-requires
+code-requires c κs = search needs
+
+store-tile-requires : tie.Need-store-tile-requires
+store-tile-requires c κs = search needs
 
 returns : tie.Need-returns
-returns c = take-discarded (c .before .before .before .before .before .before .before .before .before .args .discard) (c .before .before .before .before .before .before .before .before .before .pre) (c .before .before .before .find .ensures) (sym (c .before .before .is-discarded .ensures) ∙ c .before .if1 .taken) (c .code-of .ensures)
+returns c =
+    let told = c .before .before .before .before .before .before in
+    let s = start-none told in
+    keep-none (s .pre) (s .args .discard) (sym (told .before .before .find .ensures) ∙ told .enum-told .given .1)
+    (c .before .before .before .before .before .code .ensures) (c .store-tile .ensures)
+
+code-requires-2 : tie.Need-code-requires-2
+code-requires-2 c κs = let s = start-found c in place-few (s .pre) (s .args .discard) (there c)
 
 returns-2 : tie.Need-returns-2
-returns-2 c = take-full (c .before .before .before .before .before .before .before .before .before .args .discard) (c .before .before .before .before .before .before .before .before .before .pre) (c .before .before .before .find .ensures) (sym (c .before .before .is-discarded .ensures) ∙ c .before .if1 .left) (c .if2 .taken)
+returns-2 c =
+    let told = c .before .before in
+    let s = start-found told in
+    keep-found (s .pre) (s .args .discard) (there told) (c .if1 .taken) (c .before .code2 .ensures)
 
-enter-requires : tie.Need-enter-requires
-enter-requires c κs = search needs
-
-add-t24 : tie.Need-add-t24
-add-t24 c = search needs
-
-code-of-requires-2 : tie.Need-code-of-requires-2
-code-of-requires-2 c κs = code-small (c .before .before .before .before .before .before .before .before .before .before .before .before .before .before .args .discard) (c .before .before .before .before .before .before .before .before .before .before .before .before .before .before .pre) (c .before .before .before .before .before .before .before .before .find .ensures)
+store-tile-requires-2 : tie.Need-store-tile-requires-2
+store-tile-requires-2 c κs =
+    let told = c .before .before .before .before .before .before in
+    record { keeps = start-found told .pre; its = told .before .before .before .before .before .before .before .before .key .ensures; looked = sym (there told) }
 
 returns-3 : tie.Need-returns-3
-returns-3 c = take-stored (c .before .before .before .before .before .before .before .before .before .before .before .before .before .before .before .args .discard) (c .before .before .before .before .before .before .before .before .before .before .before .before .before .before .before .pre) (c .before .before .before .before .before .before .before .before .before .find .ensures) (sym (c .before .before .before .before .before .before .before .before .is-discarded .ensures) ∙ c .before .before .before .before .before .before .before .if1 .left) (c .before .before .before .before .before .before .if2 .left) (c .before .enter .ensures) (c .code-of2 .ensures)
+returns-3 c =
+    let no = c .before .before .before .before .before in
+    let told = no .before .before in
+    let s = start-found told in
+    keep-again (s .pre) (s .args .discard) (there told) (no .if1 .left) (no .before .code2 .ensures) (c .store-tile2 .ensures)
 
 pub keep-tile-spec : {M : Type 1} → statement M
 keep-tile-spec =
@@ -41,11 +74,13 @@ keep-tile-spec =
     (tie.spec
     key-requires
     find-requires
-    is-discarded-requires
-    code-of-requires
+    enum-known-found
+    enum-told
+    cast-t20
+    code-requires
+    store-tile-requires
     returns
+    code-requires-2
     returns-2
-    enter-requires
-    add-t24
-    code-of-requires-2
+    store-tile-requires-2
     returns-3)

@@ -25,7 +25,8 @@ wide-requires c κs = search needs
 returns-2 : tie.Need-returns-2
 returns-2 c =
     let a = c .before .before .before .args in
-    ap (λ (k : ℕ). eqb k 0) (read-off 7 (c .wide .ensures .0) (c .before .row .ensures)) ∙ sym (ap (λ (b : Bool). b && eqb (row (a .m .0) .flips) 0) (not-false (a .flip) (c .before .before .if1 .left)))
+    ap (λ (k : ℕ). eqb k 0) (read-off 7 (c .wide .ensures .0) (c .before .row .ensures))
+    ∙ sym (ap (λ (b : Bool). b && eqb (row (a .m .0) .flips) 0) (not-false (a .flip) (c .before .before .if1 .left)))
 
 pub lacks-flips-spec : {M : Type 1} → statement M
 lacks-flips-spec =

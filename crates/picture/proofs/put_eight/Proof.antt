@@ -1,17 +1,18 @@
 -- The pixels before x are put.
 use mathlib.Core.Path.{ap, _∙_}
 use mathlib.Core.List.{[], _∷_}
-use Prim.Native.Nat.{ℕ, _+_, _-_, _%_, _^_, _≤_}
+use Prim.Native.Nat.{ℕ, _≤_, _+_, _-_, _%_, _^_}
 use native.Mathlib.Nat.{mod-le}
 use native.Mathlib.Omega.{arith}
 use lib.ListN.{getD}
+use denote.Ref.{now}
 use Rattle.words.proofs.Filling.{Filled, filled-none, filled-one, filled-all}
 use borrow.Author.Needs.{needs}
 use Rattle.picture.proofs.put_eight.Statement.{statement}
 use Rattle.picture.proofs.put_eight.Tie as tie
 
 abbrev Inv-loop : tie.InvT-loop
-Inv-loop depth pixels from out₀ at x₀ out x = (x ≤ 8) × Filled (λ k. getD pixels (from + k) 0 % 2 ^ depth ∷ []) out₀ at x out
+Inv-loop depth pixels from out₀ at x₀ out x = (x ≤ 8) × Filled (λ x. getD pixels (from + x) 0 % 2 ^ depth ∷ []) out₀ at x out
 
 abbrev μ-loop : tie.MeasureT-loop
 μ-loop depth pixels from out₀ at x₀ out x = 8 - x
@@ -38,7 +39,7 @@ add-out : tie.Need-add-out Inv-loop μ-loop
 add-out c = search needs
 
 slice-write-out : tie.Need-slice-write-out Inv-loop μ-loop
-slice-write-out c = omega (arith, c .before .before .before .before .loop .inv .1 .long, c .before .before .before .before .before .before .before .pre .2)
+slice-write-out c = let lp = c .before .before .before .before in omega (arith, lp .loop .inv .1 .long, lp .before .before .before .pre .2)
 
 add-x : tie.Need-add-x Inv-loop μ-loop
 add-x c = search needs
@@ -48,15 +49,18 @@ loop-less c = search needs
 
 loop-again : tie.Need-loop-again Inv-loop μ-loop
 loop-again c =
-    let s = c .before .before .before .before .before .before .before in
-    let lp = c .before .before .before .before .loop in
-    (omega (arith, c .before .before .before .loop-test .taken), filled-one (lp .inv .1) (c .low .ensures ∙ ap (λ (k : ℕ). k % 2 ^ s .args .depth) (c .before .wide .ensures .0)))
+    let lp = c .before .before .before .before in
+    let a = lp .before .before .before .args in (
+      omega arith,
+      filled-one {g = λ x. getD (now (a .pixels)) (a .from + x) 0 % 2 ^ a .depth} (lp .loop .inv .1)
+          (c .low .ensures ∙ ap (λ (k : ℕ). k % 2 ^ a .depth) (c .before .wide .ensures .0)),
+    )
 
 same-length : tie.Need-same-length Inv-loop μ-loop
 same-length c = c .before .loop .inv .1 .long
 
 returns : tie.Need-returns Inv-loop μ-loop
-returns c = filled-all 8 (c .before .loop .inv .1) (omega (arith, c .before .loop .inv .0, c .loop-test .left))
+returns c = filled-all 8 (c .before .loop .inv .1) (omega arith)
 
 pub put-eight-spec : {M : Type 1} → statement M
 put-eight-spec =

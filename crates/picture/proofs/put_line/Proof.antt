@@ -8,19 +8,20 @@ use lib.Seq.{sets}
 use denote.Ref.{now}
 use Rattle.words.specs.Loops.{each}
 use Rattle.picture.proofs.Cells.{length-ones}
-use Rattle.picture.proofs.Drawing.{Spreading, spread-none, spread-more, spread-all, row-whole}
+use Rattle.words.proofs.Filling.{Filled, filled-none, filled-more, filled-all}
+use Rattle.picture.proofs.Drawing.{row-whole}
 use borrow.Author.Needs.{needs}
 use Rattle.picture.proofs.put_line.Statement.{statement}
 use Rattle.picture.proofs.put_line.Tie as tie
 
 abbrev Inv-loop : tie.InvT-loop
-Inv-loop strip columns y out₀ at x₀ out x = (x ≤ columns) × Spreading (λ x. each 8 (λ j. getD strip (x * 64 + y * 8 + j) 0 ∷ [])) out₀ at x out
+Inv-loop strip columns y out₀ at x₀ out x = (x ≤ columns) × Filled (λ x. each 8 (λ j. getD strip (x * 64 + y * 8 + j) 0 ∷ [])) out₀ at x out
 
 abbrev μ-loop : tie.MeasureT-loop
 μ-loop strip columns y out₀ at x₀ out x = columns - x
 
 loop-holds : tie.Need-loop-holds Inv-loop μ-loop
-loop-holds c = (omega arith, spread-none _ _ _)
+loop-holds c = (omega arith, filled-none _ _ _)
 
 mul-put-eight : tie.Need-mul-put-eight Inv-loop μ-loop
 mul-put-eight c = omega (arith, c .before .before .before .before .pre .1 .narrow)
@@ -35,12 +36,12 @@ mul-put-eight-3 : tie.Need-mul-put-eight-3 Inv-loop μ-loop
 mul-put-eight-3 c = omega (arith, c .before .before .before .before .before .pre .1 .narrow)
 
 add-put-eight-2 : tie.Need-add-put-eight-2 Inv-loop μ-loop
-add-put-eight-2 c = omega (arith, c .before .before .before .before .before .pre .1 .room)
+add-put-eight-2 c = omega (arith, c .before .before .before .before .before .pre .1 .space)
 
 put-eight-requires : tie.Need-put-eight-requires Inv-loop μ-loop
 put-eight-requires c κs =
     let p = c .before .before .before .before .before .pre in
-    (omega arith, omega (arith, p .0, p .1 .long, c .before .loop-test .taken), omega (arith, p .1 .room, c .before .loop-test .taken, c .before .before .loop .inv .1 .long))
+    (omega arith, omega (arith, p .0, p .1 .long, c .before .loop-test .taken), omega (arith, p .1 .space, c .before .loop-test .taken, c .before .before .loop .inv .1 .long))
 
 add-x : tie.Need-add-x Inv-loop μ-loop
 add-x c = search needs
@@ -50,19 +51,20 @@ loop-less c = search needs
 
 loop-again : tie.Need-loop-again Inv-loop μ-loop
 loop-again c =
-    let a = c .before .before .before .before .before .before .before .before .args in
-    let lp = c .before .before .before .before .before .loop in
-    let strip = now (a .strip) in (
+    let lp = c .before .before .before .before .before in
+    let a = lp .before .before .before .args in
+    let strip = now (a .strip) in
+    let bytes = row-whole strip (lp .loop .x * 64 + a .y * 8) (λ i. omega (arith, lp .before .before .shared-slice-known .given i)) in (
       omega arith,
-      spread-more 8 (λ x. length-ones 8 (λ j. getD strip (x * 64 + a .y * 8 + j) 0)) (lp .inv .1)
-          (c .before .before .put-eight .ensures ∙ ap (λ (l : List ℕ). sets (lp .out) (a .at + lp .x * 8) l) (row-whole strip (lp .x * 64 + a .y * 8) (λ i. omega (arith, c .before .before .before .before .before .before .before .shared-slice-known .given i)))),
+      filled-more 8 (λ x. length-ones 8 (λ j. getD strip (x * 64 + a .y * 8 + j) 0)) (lp .loop .inv .1)
+          (c .before .before .put-eight .ensures ∙ ap (λ (l : List ℕ). sets (lp .loop .out) (a .at + lp .loop .x * 8) l) bytes),
     )
 
 same-length : tie.Need-same-length Inv-loop μ-loop
 same-length c = c .before .loop .inv .1 .long
 
 returns : tie.Need-returns Inv-loop μ-loop
-returns c = spread-all (c .before .before .before .before .args .columns) (c .before .loop .inv .1) (omega arith)
+returns c = filled-all (c .before .before .before .before .args .columns) (c .before .loop .inv .1) (omega arith)
 
 pub put-line-spec : {M : Type 1} → statement M
 put-line-spec =

@@ -14,8 +14,12 @@ use borrow.Author.Needs.{needs}
 use Rattle.picture.proofs.redraw.Statement.{statement}
 use Rattle.picture.proofs.redraw.Tie as tie
 
-none : (c : tie.Else1) → let a = c .before .before .before .before .before .args in redrawSays (a .mode) (a .depth) (a .columns) (a .rows) (now (a .tiles)) (now (a .map)) (length (now (a .out))) ≡ 0
-none c = sym (c .before .redraw-says .ensures) ∙ c .if1 .left
+module _ (c : tie.Else1) where
+  abbrev start : tie.Start
+  start = c .before .before .before .before .before
+
+  none : let a = start .args in redrawSays (a .mode) (a .depth) (a .columns) (a .rows) (now (a .tiles)) (now (a .map)) (length (now (a .out))) ≡ 0
+  none = sym (c .before .redraw-says .ensures) ∙ c .if1 .left
 
 redraw-says-requires : tie.Need-redraw-says-requires
 redraw-says-requires c κs = search needs
@@ -43,8 +47,10 @@ same-length c = search needs
 
 returns-2 : tie.Need-returns-2
 returns-2 c =
-    let a = c .before .before .before .before .before .before .before .before .before .args in
-    done (none (c .before .before .before .before)) (ap (λ (n : ℕ). written 0 n) (sym (picture-length (a .mode) (a .depth) (a .columns) (now (a .tiles)) (now (a .map)) (a .rows)))) (c .before .before .draw .ensures)
+    let e = c .before .before .before .before in
+    let a = start e .args in
+    let count = picture-length (a .mode) (a .depth) (a .columns) (now (a .tiles)) (now (a .map)) (a .rows) in
+    done (none e) (ap (λ (n : ℕ). written 0 n) (sym count)) (c .before .before .draw .ensures)
 
 pub redraw-spec : {M : Type 1} → statement M
 redraw-spec =

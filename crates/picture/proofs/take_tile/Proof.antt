@@ -4,14 +4,15 @@ use Prim.Native.Nat.{_≤_, _-_}
 use native.Mathlib.Nat.{div-le-self}
 use native.Mathlib.Omega.{arith}
 use denote.Ref.{now}
-use Rattle.tileset.proofs.WritingLaws.{Filling, fill-none, fill-more}
-use Rattle.picture.proofs.Taking.{rowAt, row-length, rows-are, fill-whole, row-there}
+use Rattle.words.proofs.Filling.{Filled, filled-none, filled-whole}
+use Rattle.picture.proofs.Cells.{filled-next}
+use Rattle.picture.proofs.Taking.{rowAt, row-length, rows-are, row-there}
 use borrow.Author.Needs.{needs}
 use Rattle.picture.proofs.take_tile.Statement.{statement}
 use Rattle.picture.proofs.take_tile.Tie as tie
 
 abbrev Inv-loop : tie.InvT-loop
-Inv-loop depth pixels columns i tile₀ line corner y₀ tile y = (y ≤ 8) × Filling (rowAt depth columns pixels i) 8 tile₀ y tile
+Inv-loop depth pixels columns i tile₀ line corner y₀ tile y = (y ≤ 8) × Filled (rowAt depth columns pixels i) tile₀ 0 y tile
 
 abbrev μ-loop : tie.MeasureT-loop
 μ-loop depth pixels columns i tile₀ line corner y₀ tile y = 8 - y
@@ -38,7 +39,7 @@ add-corner : tie.Need-add-corner Inv-loop μ-loop
 add-corner c = omega (arith, c .before .pre .inside)
 
 loop-holds : tie.Need-loop-holds Inv-loop μ-loop
-loop-holds c = (omega arith, fill-none _ _ _)
+loop-holds c = (omega arith, filled-none _ _ _)
 
 mul-put-eight : tie.Need-mul-put-eight Inv-loop μ-loop
 mul-put-eight c = omega (arith, row-there (c .before .before .before .pre) (c .before .loop .y) (c .loop-test .taken))
@@ -53,7 +54,10 @@ mul-put-eight-2 : tie.Need-mul-put-eight-2 Inv-loop μ-loop
 mul-put-eight-2 c = search needs
 
 put-eight-requires : tie.Need-put-eight-requires Inv-loop μ-loop
-put-eight-requires c κs = (c .before .before .before .before .pre .deep, omega (arith, row-there (c .before .before .before .before .pre) (c .before .before .loop .y) (c .before .loop-test .taken)), omega (arith, c .before .before .loop .inv .1 .long))
+put-eight-requires c κs =
+    let t = c .before in
+    let s = t .before .before .before in
+    (s .pre .deep, omega (arith, row-there (s .pre) (t .before .loop .y) (t .loop-test .taken)), omega (arith, t .before .loop .inv .1 .long))
 
 add-y : tie.Need-add-y Inv-loop μ-loop
 add-y c = search needs
@@ -64,12 +68,12 @@ loop-less c = search needs
 loop-again : tie.Need-loop-again Inv-loop μ-loop
 loop-again c =
     let a = c .before .before .before .before .before .before .args in
-    (omega arith, fill-more (row-length (a .depth) (a .columns) (now (a .pixels)) (a .i)) (c .before .before .before .before .loop .inv .1) (omega arith) (c .before .put-eight .ensures))
+    (omega arith, filled-next 8 (row-length (a .depth) (a .columns) (now (a .pixels)) (a .i)) (c .before .before .before .before .loop .inv .1) (c .before .put-eight .ensures))
 
 returns : tie.Need-returns Inv-loop μ-loop
 returns c =
     let a = c .before .before .before .args in
-    fill-whole {n = 8} (row-length (a .depth) (a .columns) (now (a .pixels)) (a .i)) (c .before .loop .inv .1) (omega arith) refl ∙ rows-are (a .depth) (a .columns) (now (a .pixels)) (a .i)
+    filled-whole 8 8 (row-length (a .depth) (a .columns) (now (a .pixels)) (a .i)) (c .before .loop .inv .1) (omega arith) refl ∙ rows-are (a .depth) (a .columns) (now (a .pixels)) (a .i)
 
 pub take-tile-spec : {M : Type 1} → statement M
 take-tile-spec =
