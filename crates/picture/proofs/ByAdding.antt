@@ -27,13 +27,14 @@ use Rattle.tileset.proofs.Stores.{length-cut, length-tiles as length-stored}
 use Rattle.tileset.proofs.Keeping.{Every}
 use Rattle.tileset.proofs.WritingLaws.{cell-there}
 use Rattle.tileset.proofs.Adds.{keptAfter, Roomy, all-added}
-use Rattle.tileset.proofs.History.{adds-sum}
+use Rattle.tileset.proofs.History.{adds-stand, adds-sum}
 use Rattle.tileset.proofs.Stores.{tiles-at, tiles-long}
 use Rattle.picture.specs.Cells.{pixelAt, cutTile, cutTiles}
 use Rattle.picture.specs.Converting.{places, pictureTiles, storedOf, needOf, tileBytes, sizeSays}
 use Rattle.picture.specs.declared.Settings.{Settings}
 use Rattle.picture.proofs.Checks.{set-8, size-of, few-tiles}
-use Rattle.picture.proofs.Cells.{logical-8, some-8}
+use Rattle.tileset.proofs.NumberLaws.{tile-8 as cell-8}
+use Rattle.picture.proofs.Cells.{some-8}
 use Rattle.picture.proofs.Kept.{length-cutTile, kept-sizes}
 use Rattle.picture.proofs.Converted.{length-tiles, tile-is, stored-need}
 
@@ -54,28 +55,12 @@ tiles-cut d w h columns pixels (suc n) =
 
 -- ---- what writing a set of 8x8 gives: its cells are its tiles
 
--- adding leaves the settings of a set as they are
-abbrev AsBefore : Set → Set → Type 0
-AsBefore z x = x ≡ withCounts z (x .stored) (x .discarded)
-
-one-kept : (z : Set) (n : ℕ) (b : Bool) → AsBefore z (unless n (cond b (oneDiscarded z) (oneStored z)) z)
-one-kept z zero true = refl
-one-kept z zero false = refl
-one-kept z (suc n) b = refl
-
-settings-kept : (z : Set) (s : List ℕ) (ps : List (List ℕ)) → AsBefore z (setAtEnd z s ps)
-unfolding added
-settings-kept z s [] = refl
-settings-kept z s (p ∷ ps) =
-    let end = setAtEnd (setAfter z s p) (storeAfter z s p) ps in
-    settings-kept (setAfter z s p) (storeAfter z s p) ps ∙ ap (λ (x : Set). withCounts x (end .stored) (end .discarded)) (one-kept z (addSays z s p) (discards z s p))
-
 cell-corner : (m c : ℕ) → cornerOf m 8 8 c ≡ c * 64
 unfolding cornerOf
 cell-corner m c =
     let row : c / rowCells m % 1 < 1 = mod-lt (c / rowCells m) (omega arith) in
     let column : c % rowCells m % 1 < 1 = mod-lt (c % rowCells m) (omega arith) in
-    omega (arith, logical-8 m c)
+    omega (arith, cell-8 m c)
 
 -- eight rows of eight are 64 pixels in their order
 block-8 : (store : List ℕ) (at : ℕ) → length (take 64 (drop at store)) ≡ 64 → block store at 8 ≡ take 64 (drop at store)
@@ -100,7 +85,7 @@ module _ (m d : ℕ) (other : m ≡ pce-sprite → ⊥) (flips discarding : Bool
       (each-eq stored (cellBytes counted store) (λ k. packed m d 8 8 (getD ts k []))
       (λ k lt.
       let is : take 64 (drop (k * 64) store) ≡ getD ts k [] = sym (tiles-at 64 store stored k lt) ∙ ap (λ (x : List (List ℕ)). getD x k []) e in
-      let there : tileOf m 8 8 k < stored = omega (arith, logical-8 m k) in
+      let there : tileOf m 8 8 k < stored = omega (arith, cell-8 m k) in
       ap (packed m d 8 8)
       (sym (cell-there counted store k there)
       ∙ ap (λ (n : ℕ). block store n 8) (cell-corner m k)
@@ -172,6 +157,6 @@ module _ (z : Settings) (pixels : List ℕ) (size : sizeSays (z .mode) (z .depth
         let end = setAtEnd empty store ps in
         let final = storeAtEnd empty store ps in
         sym
-        (ap (λ (x : Set). setBytes x final) (settings-kept empty store ps)
+        (ap (λ (x : Set). setBytes x final) (adds-stand empty store ps .same)
         ∙ bytes-8 (z .mode) (z .depth) (known .map) (z .flip) (z .discard) limit (end .stored) (end .discarded) final (storedOf 8 8 z pixels)
-        (sym (ap (λ (x : Set). setTiles x final) (settings-kept empty store ps)) ∙ tiles-stored) stored-sizes)
+        (sym (ap (λ (x : Set). setTiles x final) (adds-stand empty store ps .same)) ∙ tiles-stored) stored-sizes)

@@ -15,7 +15,9 @@ use Rattle.words.proofs.Items.{item-getD}
 use Rattle.words.proofs.Loops.{length-each}
 use Rattle.flip.proofs.Group.{place-lt, place-row, place-column, row-lt}
 use Rattle.tileset.specs.Sets.{snes}
-use Rattle.tileset.specs.Numbers.{rowCells, startsAt, belongsTo, firstCell, tileOf, Grid}
+use Rattle.tileset.specs.Numbers.{rowCells, startsAt, belongsTo, firstCell, tileOf}
+use Rattle.tileset.specs.Inner.{Grid}
+use Rattle.tileset.proofs.NumberLaws.{first-8, tile-8 as cell-8}
 use Rattle.tileset.proofs.Stores.{cut-at}
 use Rattle.picture.specs.Cells.{pixelAt, tileOver, placeOver, cutTile}
 
@@ -38,16 +40,8 @@ filled-next k {f} {now = now} {i = i} size h e = filled-more k size h (e ∙ ap 
 pub some-8 : 0 < 8
 some-8 = omega arith
 
-pub native-8 : (m n : ℕ) → firstCell m 8 8 n ≡ n
-unfolding startsAt
-native-8 m n = rw (div-one (rowCells m), mul-one (n / rowCells m), mul-one (n % rowCells m)) (div-add-mod' n (rowCells m))
-
-pub logical-8 : (m c : ℕ) → tileOf m 8 8 c ≡ c
-unfolding belongsTo
-logical-8 m c = rw (div-one (c / rowCells m), div-one (rowCells m), div-one (c % rowCells m)) (div-add-mod' c (rowCells m))
-
 pub named-back : (m n : ℕ) → tileOf m 8 8 (firstCell m 8 8 n) ≡ n
-named-back m n = logical-8 m (firstCell m 8 8 n) ∙ native-8 m n
+named-back m n = cell-8 m (firstCell m 8 8 n) ∙ first-8 m n
 
 grid-case : (snes : Bool) → Grid (cond snes 16 1) 1 1
 grid-case true = record { row = refl; tiles = omega arith; across = omega arith; down = omega arith; narrow = omega arith; low = omega arith }

@@ -34,7 +34,7 @@ use Rattle.picture.specs.declared.Settings.{Settings}
 use Rattle.tileset.proofs.Keeping.{kept-need, need-discarded}
 use Rattle.tileset.proofs.Search.{look-told}
 use Rattle.picture.proofs.Kept.{cutTiles-at, found-here, found-final, length-cutTiles}
-use Rattle.picture.proofs.Cells.{native-8}
+use Rattle.tileset.proofs.NumberLaws.{first-8}
 use Rattle.picture.proofs.Checks.{native-tile}
 
 pub bit-small : (b : Bool) → bit b ≤ 1
@@ -100,7 +100,7 @@ module _ (z : Settings) (pixels : List ℕ) where
         let told = look-told (z .flip) 8 8 (getD (pictureTiles 8 8 z pixels) i []) (storedOf 8 8 z pixels) e in
         let flips = flip-fits (z .flip) (row (z .mode) .flips) f (s .flips) (told .1 .0) in
         record {
-          tile = subst (λ (n : ℕ). n < 2 ^ row (z .mode) .tile) (sym (native-8 (z .mode) (k .0))) (lt-of-lt-of-le (told .0) room);
+          tile = subst (λ (n : ℕ). n < 2 ^ row (z .mode) .tile) (sym (first-8 (z .mode) (k .0))) (lt-of-lt-of-le (told .0) room);
           palette = s .palette;
           h = flips .0;
           v = flips .1;

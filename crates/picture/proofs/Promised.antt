@@ -29,7 +29,8 @@ use Rattle.picture.specs.declared.Settings.{Settings}
 use Rattle.picture.specs.declared.Picture.{Picture}
 use Rattle.picture.specs.declared.Gathered.{Gathered}
 use Rattle.picture.specs.declared.Gathered.the-variants.{Count, NoRoom}
-use Rattle.picture.proofs.Cells.{native-8, some-8}
+use Rattle.tileset.proofs.NumberLaws.{first-8}
+use Rattle.picture.proofs.Cells.{some-8}
 use Rattle.picture.proofs.Room.{above}
 use Rattle.picture.proofs.Converted.{found-taken, stored-need, stored-discarded, found-fits, tile-bytes-length, map-bytes-length}
 
@@ -55,7 +56,7 @@ code-v k false false = ne-eqb ((k * 4 + 0 + 2 * 0) / 2 % 2) 1 (λ e. omega arith
 
 pub entry-back : (m palette : ℕ) (found : Found) → entryCoded m palette (codeOf found) ≡ entryFor m 8 8 palette found
 entry-back m palette (At k f) = rw (code-place (k .0) (f .h) (f .v), code-h (k .0) (f .h) (f .v), code-v (k .0) (f .h) (f .v))
-entry-back m palette Nothing = ap (λ (n : ℕ). entryAs n palette false false) (native-8 m 0)
+entry-back m palette Nothing = ap (λ (n : ℕ). entryAs n palette false false) (first-8 m 0)
 
 -- ---- what was gathered, of all tiles and from an empty store
 

@@ -165,7 +165,7 @@ module _ (z : Settings) (pixels : List ℕ) where
         let n = named i lt in
         let count : length (tileBytes z pixels) / (z .depth * 8) ≡ length stored =
         ap (λ (l : ℕ). l / (z .depth * 8)) (tile-bytes-length z pixels picture) ∙ mul-div-cancel (length stored) (omega (arith, size .shallow)) in
-        let place : tileNamed (z .mode) 8 8 (written i) ≡ n .place = ap (tileNamed (z .mode) 8 8) (entry-is i lt n) ∙ named-back (z .mode) (n .place) in
+        let place : tileNamed (z .mode) 8 8 (written i) ≡ n .place .0 = ap (tileNamed (z .mode) 8 8) (entry-is i lt n) ∙ named-back (z .mode) (n .place .0) in
         lt-leb (length (tileBytes z pixels) / (z .depth * 8)) (tileNamed (z .mode) 8 8 (written i)) (omega (arith, n .inside))
 
     pub redraw-accepted : (space : ℕ) → 64 * places z ≤ space → redrawSays (z .mode) (z .depth) (z .columns) (z .rows) (tileBytes z pixels) (mapBytes z pixels) space ≡ 0

@@ -15,8 +15,9 @@ use borrow.Author.Tests.{lt-ltb, le-ltb}
 use Rattle.words.specs.Answers.{_when_}
 use Rattle.flip.specs.Flips.{flip}
 use Rattle.flip.specs.declared.Flip.{Flip}
-use Rattle.tileset.specs.Finding.{tilesIn, lookUp, isFound}
+use Rattle.tileset.specs.Finding.{logical, tilesIn, lookUp, isFound}
 use Rattle.tileset.specs.Keeping.{keep}
+use Rattle.tileset.specs.declared.Logical.{Logical}
 use Rattle.tileset.specs.declared.Found.{Found}
 use Rattle.tileset.specs.declared.Found.the-variants.{At, Nothing}
 use Rattle.tileset.proofs.Keeping.{keep-new, after-found, after-new, found-below}
