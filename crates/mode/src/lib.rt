@@ -95,7 +95,7 @@ impl Mode {
 
     pub const WSC_PACKED: Mode = Mode(console::WSC_PACKED);
 
-    // The mode's numbers, as the table has them.
+    // The mode's numbers, as the table has them. A match, for a variable index would copy the table to the stack at each use.
     pub fn row(self) -> [u8; 9]
         requires { ⌜ self .0 < 16 ⌝ }
         ensures { λ r. ⌜ r ≡ numbers (row (self .0)) ⌝ }
