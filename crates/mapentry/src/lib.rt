@@ -121,28 +121,25 @@ pub fn places_of(m: Mode) -> Places
     }
 }
 
-// The bits that the mode has for each field are its row's, read at once so that the row is looked up once.
+// The bits that the mode has for each field are its row's.
 pub fn first_misfit(m: Mode, e: Mapentry) -> Misfit
     requires { ⌜ m .0 < 16 ⌝ }
     ensures { λ r. ⌜ r ≡ misfitOf (m .0) e ⌝ }
 {
-    let tile = m.tile_bits();
-    let palette = m.palette_bits();
-    let flips = m.flip_bits();
-    let priority = m.priority_bits();
-    if !words::holds(tile, e.tile) {
+    let bits = m.entry_bits();
+    if !words::holds(bits.tile, e.tile) {
         return Misfit::Tile;
     }
-    if !words::holds(palette, e.palette) {
+    if !words::holds(bits.palette, e.palette) {
         return Misfit::Palette;
     }
-    if !words::holds(flips, words::flag(e.flip_h)) {
+    if !words::holds(bits.flips, words::flag(e.flip_h)) {
         return Misfit::Flip;
     }
-    if !words::holds(flips, words::flag(e.flip_v)) {
+    if !words::holds(bits.flips, words::flag(e.flip_v)) {
         return Misfit::Flip;
     }
-    if !words::holds(priority, words::flag(e.priority)) {
+    if !words::holds(bits.priority, words::flag(e.priority)) {
         return Misfit::Priority;
     }
     Misfit::Nothing

@@ -1,10 +1,11 @@
 -- "Sixteen modes": the table of document 01.
 -- Assumes nothing.
-use Prim.Native.Nat.{ℕ, zero, suc}
+use Prim.Native.Nat.{ℕ, zero, suc, _≤_}
 use mathlib.Core.Bool.{Bool, false, _||_}
 use mathlib.Core.List.{List, [], _∷_, _++_, map}
 use lib.Dec.{eqb}
 use lib.ListN.{getD}
+use Rattle.mode.specs.declared.EntryBits.{EntryBits}
 use Rattle.mode.specs.declared.Mode.{Mode}
 
 -- One mode's row. "None" is 0; flips and priority are how many bits each has in an entry, 1 or 0.
@@ -54,6 +55,16 @@ oneOf d (e ∷ es) = eqb d e || oneOf d es
 
 abbrev pub hasDepth : ℕ → ℕ → Bool
 hasDepth m depth = oneOf depth (row m .depths)
+
+-- How many bits each field of an entry has: twelve at most.
+abbrev pub entryBits : Row → EntryBits
+entryBits r = record { tile = r .tile; palette = r .palette; flips = r .flips; priority = r .priority }
+
+pub record Few (b : EntryBits) : Type 0 where
+  pub tile : b .tile ≤ 12
+  pub palette : b .palette ≤ 12
+  pub flips : b .flips ≤ 12
+  pub priority : b .priority ≤ 12
 
 -- The modes of which document 01 speaks by name.
 abbrev pub snes : ℕ

@@ -5,7 +5,7 @@ ghost use mathlib.Core.Path.{_≡_};
 ghost use Prim.Native.Nat.{_<_, _≤_};
 ghost use lib.ListN.{getD};
 ghost use Rattle.words.specs.Bytes.{same};
-ghost use Rattle.mode.specs.Table.{row, numbers, hasDepth, consoles};
+ghost use Rattle.mode.specs.Table.{row, numbers, hasDepth, entryBits, Few, consoles};
 ghost use Rattle.mode.specs.Names.{nameOf, modeNamed};
 
 // All sixteen modes in one fixed table. A mode with fewer than three depths repeats its last; flips and priority are numbers of bits.
@@ -54,6 +54,14 @@ pub const LENGTHS: [usize; 16] = [4, 10, 2, 3, 3, 10, 2, 3, 2, 3, 10, 3, 4, 2, 3
 // A mode by its number.
 pub struct Mode(pub u32);
 
+// How many bits each field of an entry has.
+pub struct EntryBits {
+    pub tile: u32,
+    pub palette: u32,
+    pub flips: u32,
+    pub priority: u32,
+}
+
 impl Mode {
     pub const SNES: Mode = Mode(console::SNES);
 
@@ -87,7 +95,7 @@ impl Mode {
 
     pub const WSC_PACKED: Mode = Mode(console::WSC_PACKED);
 
-    // The mode's numbers, as the table has them.
+    // The mode's numbers, as the table has them. A match, for a variable index would copy the table to the stack at each use.
     pub fn row(self) -> [u8; 9]
         requires { ⌜ self .0 < 16 ⌝ }
         ensures { λ r. ⌜ r ≡ numbers (row (self .0)) ⌝ }
@@ -181,6 +189,20 @@ impl Mode {
     {
         let r = self.row();
         words::wide(r[8])
+    }
+
+    // The four at once, with one look at the table.
+    pub fn entry_bits(self) -> EntryBits
+        requires { ⌜ self .0 < 16 ⌝ }
+        ensures { λ r. ⌜ (r ≡ entryBits (row (self .0))) × Few r ⌝ }
+    {
+        let r = self.row();
+        EntryBits {
+            tile: words::wide(r[5]),
+            palette: words::wide(r[6]),
+            flips: words::wide(r[7]),
+            priority: words::wide(r[8]),
+        }
     }
 
     // Whether the bytes are the mode's name.

@@ -21,11 +21,16 @@ add-t7 c =
 
 returns : tie.Need-returns
 returns c =
-    let tiles = c .before .before .before .before .before .before .before .before in
-    let places = tiles .before .before .before .before in
+    let v = c .before .before in
+    let h = v .before .before in
+    let palette = h .before .before in
+    let tile = palette .before .before in
+    let places = tile .before .before .before .before in
     let s = places .before in
-    rw (tiles .before .low2 .ensures, tiles .up .ensures, tiles .before .before .low .ensures, tiles .before .before .before .down .ensures, c .before .before .before .before .before .before .low3 .ensures, c .before .before .before .before .before .before .before .down2 .ensures, c .before .before .before .before .low4 .ensures, c .before .before .before .before .before .down3 .ensures, c .before .before .low5 .ensures, c .before .before .before .down4 .ensures, c .low6 .ensures, c .before .down5 .ensures)
-    (ap (λ (p : Places). readAt p (s .args .word)) (places .places-of .ensures .0) ∙ read-right (s .args .m .0) (s .pre .0) (s .args .word) (s .pre .1))
+    rw (tile .before .low2 .ensures, tile .up .ensures, tile .before .before .low .ensures, tile .before .before .before .down .ensures)
+    (rw (palette .low3 .ensures, palette .before .down2 .ensures, h .low4 .ensures, h .before .down3 .ensures)
+    (rw (v .low5 .ensures, v .before .down4 .ensures, c .low6 .ensures, c .before .down5 .ensures)
+    (ap (λ (p : Places). readAt p (s .args .word)) (places .places-of .ensures .0) ∙ read-right (s .args .m .0) (s .pre .0) (s .args .word) (s .pre .1))))
 
 pub entry-in-spec : {M : Type 1} → statement M
 entry-in-spec =

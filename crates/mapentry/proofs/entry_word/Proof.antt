@@ -13,14 +13,18 @@ use Rattle.mapentry.proofs.entry_word.Tie as tie
 
 -- the sum is the entry's word, and so below 65,536 at every step
 total : (c : tie.After-up5) → let k = c .before .before .before .before .before in let a = k .before .before .before .before .before .before .args in
-    k .before .before .before .before .low .result + k .before .before .up .result + k .before .up2 .result + c .before .before .before .before .up3 .result + c .before .before .up4 .result + c .up5 .result ≡ entryWord (a .m .0) (a .e)
+    k .before .before .before .before .low .result + k .before .before .up .result + k .before .up2 .result + c .before .before .before .before .up3 .result
+    + c .before .before .up4 .result + c .up5 .result ≡ entryWord (a .m .0) (a .e)
 total c =
-    let k = c .before .before .before .before .before in
+    let v = c .before .before in
+    let h = v .before .before in
+    let k = h .before in
     let places = k .before .before .before .before .before in
     let s = places .before in
-    rw (k .before .before .before .before .low .ensures, k .before .before .up .ensures, k .before .before .before .down .ensures, k .before .up2 .ensures, c .before .before .before .before .up3 .ensures, k .flag .ensures .0, c .before .before .up4 .ensures, c .before .before .before .flag2 .ensures .0, c .up5 .ensures, c .before .flag3 .ensures .0)
+    rw (k .before .before .before .before .low .ensures, k .before .before .up .ensures, k .before .before .before .down .ensures, k .before .up2 .ensures)
+    (rw (h .up3 .ensures, k .flag .ensures .0, v .up4 .ensures, v .before .flag2 .ensures .0, c .up5 .ensures, c .before .flag3 .ensures .0)
     (ap (λ (p : Places). summed p (s .args .e)) (places .places-of .ensures .0)
-    ∙ summed-right (s .args .m .0) (s .pre .mode) (s .args .e) (fitting (s .args .m .0) (s .args .e) (s .pre .fits)))
+    ∙ summed-right (s .args .m .0) (s .pre .mode) (s .args .e) (fitting (s .args .m .0) (s .args .e) (s .pre .fits))))
 
 word-fits : (c : tie.After-up5) → let a = c .before .before .before .before .before .before .before .before .before .before .before .args in entryWord (a .m .0) (a .e) < 65536
 word-fits c =
