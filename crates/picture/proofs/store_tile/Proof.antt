@@ -6,7 +6,7 @@ use Rattle.picture.proofs.store_tile.Statement.{statement}
 use Rattle.picture.proofs.store_tile.Tie as tie
 
 returns : tie.Need-returns
-returns c = stored-none (c .before .pre .keeps) _ _ _ _ _ (c .if1 .taken)
+returns c = stored-none (c .before .pre .keeps) _ _ _ _ _ (omega (arith, c .if1 .taken))
 
 enter-requires : tie.Need-enter-requires
 enter-requires c κs = search needs
