@@ -17,7 +17,7 @@ use Rattle.mode.specs.Names.{modeNamed}
 use Rattle.picture.specs.declared.Settings.{Settings}
 use Rattle.sheet.specs.Keys.{keyOf, mode}
 use Rattle.sheet.specs.Numbers.{digitsFrom, numberIn, atMost}
-use Rattle.sheet.specs.Sheet.{line, sheetLines, modeTold, textSays, lineSays, lineLength, Lines, Numbers, NoLines, linesFrom, linesIn, sheetIn}
+use Rattle.sheet.specs.Sheet.{line, sheetLines, modeTold, textSays, lineSays, lineLength, Numbers, NoLines, linesFrom, linesIn, sheetIn}
 use Rattle.sheet.specs.Inner.{keyCount, lineAt}
 use Rattle.sheet.specs.declared.Line.{Line}
 use Rattle.sheet.specs.declared.Told.{Told}

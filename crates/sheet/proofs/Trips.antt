@@ -17,7 +17,7 @@ use Rattle.mode.proofs.ByMode.{by-mode}
 use Rattle.picture.specs.declared.Settings.{Settings}
 use Rattle.sheet.specs.Keys.{keyOf, lineOf, mode}
 use Rattle.sheet.specs.Numbers.{largest, digitsOf, decimal, digitsFrom, numberIn, atMost}
-use Rattle.sheet.specs.Sheet.{sheetLines, modeTold, textSays, lineSays, lineLength, Lines, Numbers, linesFrom, linesIn, sheetIn, settingsOf, valuesOf, textFor, linesText, sheetText, Within}
+use Rattle.sheet.specs.Sheet.{sheetLines, modeTold, textSays, lineSays, lineLength, Numbers, linesFrom, linesIn, sheetIn, settingsOf, valuesOf, textFor, linesText, sheetText, Within}
 use Rattle.sheet.specs.declared.Line.{Line}
 use Rattle.sheet.specs.declared.Told.the-variants.{Value}
 use Rattle.sheet.specs.declared.Sheet.the-variants.{Read}

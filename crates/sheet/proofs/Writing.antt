@@ -3,12 +3,12 @@
 use Prim.Native.Nat.{ℕ, zero, suc, _+_, _-_, _/_, _%_, _^_, _<_, _≤_}
 use mathlib.Core.Path.{_≡_, refl, sym, ap, _∙_, subst}
 use mathlib.Core.List.{List, [], _∷_, _++_}
-use native.Mathlib.Nat.{not-suc-le-zero, zero-add, add-zero, pow-suc}
+use native.Mathlib.Nat.{not-suc-le-zero, zero-add, pow-suc}
 use native.Mathlib.Numerals.{add-one}
 use native.Mathlib.Omega.{arith}
 use lib.Dec.{ltb, ltb→lt}
 use lib.ListN.{length, getD, set, take, drop, length-take, length-drop, length-append, length-set}
-use lib.Seq.{sets, length-sets, take-length, take-append-seam, append-snoc, drop-cons, getD-set-same, drop-set-lt}
+use lib.Seq.{length-sets, take-length, take-append-seam, append-snoc, drop-cons, getD-set-same, drop-set-lt}
 use borrow.Author.Tests.{lt-ltb, le-ltb}
 use Rattle.words.specs.Answers.{written}
 use Rattle.words.specs.Bytes.{bit}
