@@ -9,7 +9,6 @@ use native.Mathlib.Omega.{arith}
 use lib.ListN.{length, getD, take, drop, length-map, List·getD-map}
 use lib.Seq.{getD-take, getD-drop}
 use borrow.Author.Tests.{ne-eqb}
-use Rattle.words.specs.Answers.{unless}
 use Rattle.words.specs.Loops.{each}
 use Rattle.words.proofs.Items.{each-eq}
 use Rattle.words.proofs.Filling.{each-of}
@@ -18,10 +17,9 @@ use Rattle.tile.specs.Tile.{packed}
 use Rattle.tileset.specs.Sets.{area, roomIn, newSet, withCounts}
 use Rattle.tileset.specs.Numbers.{rowCells, tileOf}
 use Rattle.tileset.specs.Writing.{cellCount, cornerOf, block, cellBytes, setBytes}
-use Rattle.tileset.specs.Adding.{discards, oneStored, oneDiscarded, addSays, added}
 use Rattle.tileset.specs.Finding.{cutTo, tilesIn}
 use Rattle.tileset.specs.Keeping.{keepAll, kept}
-use Rattle.tileset.specs.History.{setAfter, storeAfter, setAtEnd, storeAtEnd, accepted, setTiles}
+use Rattle.tileset.specs.History.{setAtEnd, storeAtEnd, accepted, setTiles}
 use Rattle.tileset.specs.declared.Set.{Set}
 use Rattle.tileset.proofs.Stores.{length-cut, length-tiles as length-stored}
 use Rattle.tileset.proofs.Keeping.{Every}

@@ -13,7 +13,7 @@ use borrow.Author.Tests.{lt-ltb, le-ltb, ltb-false, eq-eqb, ne-eqb, eqb-true, eq
 use Rattle.words.specs.Answers.{_when_, firstApplying}
 use Rattle.words.proofs.Answers.{all-passed, not-given, first-given, last-given}
 use Rattle.words.proofs.Order.{first-append}
-use Rattle.words.proofs.Loops.{either, both-left, both-right}
+use Rattle.words.proofs.Loops.{both-left, both-right}
 use Rattle.mode.specs.Table.{row, oneOf, hasDepth, pce-sprite}
 use Rattle.mapentry.specs.Entry.{misfitOf, misfitSays}
 use Rattle.mapentry.specs.declared.Misfit.{Misfit}
@@ -22,7 +22,7 @@ use Rattle.mapentry.proofs.Laws.{small, fitting}
 use Rattle.tile.specs.Tile.{tileSays}
 use Rattle.tile.proofs.Native.{Native}
 use Rattle.tileset.specs.Sets.{sides, setSays}
-use Rattle.tileset.proofs.Says.{next-given}
+use Rattle.tileset.proofs.Says.{next-given, room-within}
 use Rattle.tileset.proofs.Sizes.{IsSet, set-of, bits-some}
 use Rattle.tileset.proofs.WritingLaws.{native-cell}
 use Rattle.picture.specs.Entries.{entryAs}
@@ -203,14 +203,14 @@ module _ (z : Settings) (len space : ℕ) where
 module _ (z : Settings) (len : ℕ) where
   pub room-named : pictureRoom z len ≤ 2 ^ row (z .mode) .tile
   unfolding pictureRoom
-  room-named = either (λ (n : ℕ). n ≤ 2 ^ row (z .mode) .tile) (eqb (z .limit) 0) _ _ (omega arith) (omega arith)
+  room-named = room-within (z .limit) (2 ^ row (z .mode) .tile) (len / (z .depth * 8) ∷ []) .first
 
   pub room-most : z .mode < 16 → pictureRoom z len ≤ 4096
   room-most m = le-trans room-named (pow-mono {i = row (z .mode) .tile} {j = 12} (small (z .mode) m .tile))
 
   room-whole : pictureRoom z len ≤ len / (z .depth * 8)
   unfolding pictureRoom
-  room-whole = either (λ (n : ℕ). n ≤ len / (z .depth * 8)) (eqb (z .limit) 0) _ _ (omega arith) (omega arith)
+  room-whole = room-within (z .limit) (2 ^ row (z .mode) .tile) (len / (z .depth * 8) ∷ []) .others .0
 
   -- so many tiles fit the buffer
   pub room-bytes : 0 < z .depth → {n : ℕ} → n ≤ pictureRoom z len → n * (z .depth * 8) ≤ len

@@ -12,6 +12,7 @@ use Rattle.tile.specs.Layout.{spread}
 use Rattle.tile.specs.Tile.{packingOf}
 use Rattle.flip.specs.Flips.{flipAt, flipped}
 use Rattle.flip.specs.Matching.{matchFlip}
+use Rattle.tileset.specs.Sets.{roomUnder}
 use Rattle.tileset.specs.Finding.{cutTo, lookUp}
 use Rattle.tileset.specs.Numbers.{startsAt}
 use Rattle.picture.specs.Cells.{pixelAt, cutTile, cutTiles}
@@ -29,7 +30,7 @@ examplePixels = set (set (replicate 128 0) 0 1) 15 1
 -- "tiles=1", "discarded=1", "tilebytes=16", "mapbytes=4": "the tile buffer has 65,536 bytes", and the map four
 pub example-answer : answerOf (convertSays example examplePixels 65536 4) example examplePixels
     ≡ record { refusal = 0; tiles = 1; discarded = 1; «tile_bytes» = 16; «map_bytes» = 4 }
-unfolding row layout fromBits table spread packingOf flipAt flipped matchFlip cutTo lookUp pixelAt cutTile cutTiles keep kept need discarded pictureTiles storedOf needOf discardedOf tileBytes foundAt mapBytes pictureRoom sizeSays convertSays
+unfolding row layout fromBits table spread packingOf flipAt flipped matchFlip cutTo lookUp pixelAt cutTile cutTiles keep kept need discarded pictureTiles storedOf needOf discardedOf tileBytes foundAt mapBytes pictureRoom roomUnder sizeSays convertSays
 example-answer = refl
 
 -- "80 00, fourteen 00"

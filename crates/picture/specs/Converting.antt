@@ -3,7 +3,7 @@
 use mathlib.Core.Path.{_≡_}
 use mathlib.Core.Bool.{Bool, false, not, cond, _&&_}
 use mathlib.Core.List.{List, [], _∷_, _++_}
-use Prim.Native.Nat.{ℕ, _*_, _/_, _^_, min}
+use Prim.Native.Nat.{ℕ, _*_, _/_, _^_}
 use lib.Dec.{leb, ltb, eqb}
 use lib.ListN.{length, getD}
 use Rattle.words.specs.Answers.{_when_, firstApplying, unless, overwrite}
@@ -11,6 +11,7 @@ use Rattle.words.specs.Loops.{each}
 use Rattle.mode.specs.Table.{row, hasDepth, pce-sprite}
 use Rattle.mapentry.specs.Entry.{misfitOf, misfitSays, entryBytes}
 use Rattle.tile.specs.Tile.{packed}
+use Rattle.tileset.specs.Sets.{roomUnder}
 use Rattle.tileset.specs.Finding.{lookUp}
 use Rattle.picture.specs.Cells.{cutTiles}
 use Rattle.tileset.specs.Keeping.{kept, need, discarded}
@@ -48,9 +49,7 @@ mapBytes z pixels = each (places z) (λ i. entryBytes (z .mode) (entryFor (z .mo
 
 -- "Room is the least of the limit if not 0, 2^(tile bits), and whole tiles in the tile buffer", of so many bytes.
 unfoldable pub pictureRoom : Settings → ℕ → ℕ
-pictureRoom z len =
-    cond (eqb (z .limit) 0) (min (2 ^ row (z .mode) .tile) (len / (z .depth * 8)))
-    (min (min (2 ^ row (z .mode) .tile) (len / (z .depth * 8))) (z .limit))
+pictureRoom z len = roomUnder (z .limit) (2 ^ row (z .mode) .tile) (len / (z .depth * 8) ∷ [])
 
 -- "Columns or rows outside 1..64" is 4. The checks of conversion and of redrawing begin alike.
 abbrev pub isSpan : ℕ → Bool

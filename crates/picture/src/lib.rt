@@ -88,8 +88,7 @@ fn lacks_flips(m: Mode, flip: bool) -> bool
     if !flip {
         return false;
     }
-    let numbers = m.row();
-    words::wide(numbers[7]) == 0
+    m.flip_bits() == 0
 }
 
 fn palette_says(m: Mode, palette: u32) -> u32
@@ -141,8 +140,7 @@ fn most_tiles(m: Mode) -> usize
     requires { ⌜ m .0 < 16 ⌝ }
     ensures { λ r. ⌜ r ≡ 2 ^ row (m .0) .tile ⌝ }
 {
-    let numbers = m.row();
-    words::up(1, words::wide(numbers[5])) as usize
+    words::up(1, m.tile_bits()) as usize
 }
 
 // How many tiles a picture may have, in a tile buffer of so many bytes.
@@ -154,10 +152,7 @@ fn picture_room(settings: Settings, len: usize) -> usize
         most_tiles(Mode(settings.mode)),
         len / (settings.depth * 8) as usize,
     );
-    if settings.limit == 0 {
-        return most;
-    }
-    words::least(most, settings.limit as usize)
+    tileset::room(settings.limit, most)
 }
 
 // Eight pixels, from place from on, cut to the depth, from place at of out on.

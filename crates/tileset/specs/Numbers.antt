@@ -5,8 +5,8 @@ use mathlib.Core.List.{List, [], _∷_, _++_}
 use Prim.Native.Nat.{ℕ, _+_, _*_, _/_, _%_}
 use lib.Dec.{ltb, eqb}
 use Rattle.words.specs.Answers.{_when_, firstApplying, unless}
-use Rattle.mode.specs.Table.{pce-sprite}
-use Rattle.tileset.specs.Sets.{snes, isSize}
+use Rattle.mode.specs.Table.{snes, pce-sprite}
+use Rattle.tileset.specs.Sets.{isSize}
 use Rattle.tileset.specs.declared.NativeAnswer.{NativeAnswer}
 use Rattle.tileset.specs.declared.LogicalAnswer.{LogicalAnswer}
 

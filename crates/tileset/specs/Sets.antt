@@ -5,12 +5,9 @@ use mathlib.Core.List.{List, [], _∷_, _++_}
 use Prim.Native.Nat.{ℕ, _*_, _/_, min}
 use lib.Dec.{ltb, eqb}
 use Rattle.words.specs.Answers.{_when_, firstApplying, unless}
-use Rattle.mode.specs.Table.{oneOf, hasDepth, pce-sprite}
+use Rattle.mode.specs.Table.{oneOf, hasDepth, snes, pce-sprite}
 use Rattle.tileset.specs.declared.Set.{Set}
 use Rattle.tileset.specs.declared.SetAnswer.{SetAnswer}
-
-abbrev pub snes : ℕ
-snes = 0
 
 -- "Snes tiles: width and height each 8, 16, 32 or 64. Pce_sprite: its six sizes. Others: width 8, height 8, 16, 32 or 64."
 abbrev pub sides : List ℕ

@@ -13,6 +13,7 @@ use flip::Flip;
 pub use numbers::logical_number;
 pub use numbers::native_number;
 pub use reading::read;
+pub use sets::room;
 pub use sets::set_new;
 pub use sets::set_reset;
 pub use writing::write;

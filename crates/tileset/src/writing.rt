@@ -13,9 +13,8 @@ ghost use Prim.Native.Nat.{_/_, _≤_};
 ghost use lib.ListN.{length};
 ghost use lib.Seq.{sets};
 ghost use Rattle.words.specs.Answers.{overwrite, Wrote};
-ghost use Rattle.words.specs.Loops.{each, some};
+ghost use Rattle.words.specs.Loops.{each};
 ghost use Rattle.mode.specs.Table.{pce-sprite};
-ghost use Rattle.tile.specs.Tile.{tooLarge};
 ghost use Rattle.tileset.specs.Sets.{setSays};
 ghost use Rattle.tileset.specs.Numbers.{rowCells};
 ghost use Rattle.tileset.specs.Writing.{paddedCells, cellCount, cornerOf, block, cellBytes, cellsOf, spriteBytes, setBytes, writeSize, writeSays};
@@ -116,22 +115,6 @@ fn put_sprites(set: Set, store: &[u8], out: &mut [u8])
     }
 }
 
-// Whether one of the first count pixels is 2^depth or more.
-fn some_too_large(depth: u32, store: &[u8], count: usize) -> bool
-    requires { ⌜ (depth ≤ 8) × (count ≤ length (now store)) ⌝ }
-    ensures { λ r. ⌜ r ≡ some count (tooLarge depth (now (store .entry))) ⌝ }
-{
-    let limit = words::up(1, depth);
-    let mut i = 0;
-    while i < count {
-        if limit <= words::wide(store[i]) {
-            return true;
-        }
-        i += 1;
-    }
-    false
-}
-
 // How many bytes a set has.
 fn write_size(set: Set) -> usize
     requires { ⌜ (setSays (set .mode) (set .depth) (set .width) (set .height) ≡ 0) × (set .stored ≤ 65535) ⌝ }
@@ -153,7 +136,7 @@ fn write_says(set: Set, store: &[u8], space: usize) -> u32
         return refusal;
     }
     let count = (set.stored * (set.width * set.height)) as usize;
-    if some_too_large(set.depth, store, count) {
+    if tile::some_too_large(set.depth, store, count) {
         return refusal::PIXEL;
     }
     if space < write_size(set) {

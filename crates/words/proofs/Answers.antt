@@ -96,8 +96,7 @@ module _ {k : ℕ} {bytes before after : List ℕ} {r : Written} (wrote : Wrote 
   -- "A refusal returns its number, all else returned 0 or nothing; lent bytes .. are untouched."
   pub refused-untouched : (r .refusal ≡ 0 → ⊥) → (r .written ≡ 0) × (after ≡ before)
   refused-untouched h =
-      let due : k ≡ 0 → ⊥ = λ z. h (told ∙ z) in
-      (
+      let due : k ≡ 0 → ⊥ = λ z. h (told ∙ z) in (
         ap (λ (x : Written). x .written) (wrote .answer) ∙ when-refused k (length bytes) 0 due,
         wrote .lent ∙ when-refused k (overwrite before bytes) before due,
       )

@@ -1,10 +1,9 @@
--- The table says whether there are flips.
+-- The mode's row says whether there are flips.
 use mathlib.Core.Path.{sym, ap, _∙_}
 use mathlib.Core.Bool.{Bool, _&&_}
 use Prim.Native.Nat.{ℕ}
 use lib.Dec.{eqb}
 use borrow.Author.Tests.{not-true, not-false}
-use Rattle.words.proofs.Bytes.{read-off}
 use Rattle.mode.specs.Table.{row}
 use borrow.Author.Needs.{needs}
 use Rattle.picture.proofs.lacks_flips.Statement.{statement}
@@ -13,21 +12,14 @@ use Rattle.picture.proofs.lacks_flips.Tie as tie
 returns : tie.Need-returns
 returns c = let a = c .before .args in sym (ap (λ (b : Bool). b && eqb (row (a .m .0) .flips) 0) (not-true (a .flip) (c .if1 .taken)))
 
-row-requires : tie.Need-row-requires
-row-requires c κs = search needs
-
-array-read-wide : tie.Need-array-read-wide
-array-read-wide c = search needs
-
-wide-requires : tie.Need-wide-requires
-wide-requires c κs = search needs
+flip-bits-requires : tie.Need-flip-bits-requires
+flip-bits-requires c κs = search needs
 
 returns-2 : tie.Need-returns-2
 returns-2 c =
-    let a = c .before .before .before .args in
-    ap (λ (k : ℕ). eqb k 0) (read-off 7 (c .wide .ensures .0) (c .before .row .ensures))
-    ∙ sym (ap (λ (b : Bool). b && eqb (row (a .m .0) .flips) 0) (not-false (a .flip) (c .before .before .if1 .left)))
+    let a = c .before .before .args in
+    ap (λ (k : ℕ). eqb k 0) (c .flip-bits .ensures .0)
+    ∙ sym (ap (λ (b : Bool). b && eqb (row (a .m .0) .flips) 0) (not-false (a .flip) (c .before .if1 .left)))
 
 pub lacks-flips-spec : {M : Type 1} → statement M
-lacks-flips-spec =
-    tie.close (tie.spec returns row-requires array-read-wide wide-requires returns-2)
+lacks-flips-spec = tie.close (tie.spec returns flip-bits-requires returns-2)

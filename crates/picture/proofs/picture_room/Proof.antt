@@ -1,8 +1,10 @@
--- The least of two numbers, or of three.
-use mathlib.Core.Path.{_≡_, ap, _∙_}
+-- The least of what the mode can name and of what the buffer holds, under the limit.
+use mathlib.Core.Path.{_≡_, sym, ap, _∙_}
+use mathlib.Core.List.{[]}
 use Prim.Native.Nat.{ℕ, min, _/_, _*_, _^_}
-use borrow.Author.Tests.{eq-eqb, ne-eqb}
 use Rattle.mode.specs.Table.{row}
+use Rattle.tileset.specs.Sets.{roomUnder}
+use Rattle.tileset.proofs.Says.{room-taken}
 use Rattle.picture.specs.Converting.{pictureRoom}
 use borrow.Author.Needs.{needs}
 use Rattle.picture.proofs.picture_room.Statement.{statement}
@@ -29,32 +31,17 @@ most c =
     let a = c .before .before .before .args in
     c .least .ensures ∙ ap (λ (k : ℕ). min k (a .len / (a .settings .depth * 8))) (c .before .before .most-tiles .ensures)
 
+room-requires : tie.Need-room-requires
+room-requires c κs = search needs
+
 returns : tie.Need-returns
 unfolding pictureRoom
-returns c = rw (eq-eqb _ 0 (c .if1 .taken)) (most (c .before .before))
-
-cast-least-2 : tie.Need-cast-least-2
-cast-least-2 c = search needs
-
-least-requires-2 : tie.Need-least-requires-2
-least-requires-2 c κs = search needs
-
-returns-2 : tie.Need-returns-2
-unfolding pictureRoom
-returns-2 c =
-    let limit = c .before .before .before .before .before .before .before .args .settings .limit in
-    rw (ne-eqb _ 0 (c .before .before .if1 .left)) (c .least2 .ensures ∙ ap (λ (k : ℕ). min k limit) (most (c .before .before .before .before)))
+returns c =
+    let a = c .before .before .before .before .args in
+    c .room .ensures
+    ∙ ap (λ (k : ℕ). roomUnder (a .settings .limit) k []) (most (c .before))
+    ∙ sym (room-taken (a .settings .limit) (2 ^ row (a .settings .mode) .tile) (a .len / (a .settings .depth * 8)) [])
 
 pub picture-room-spec : {M : Type 1} → statement M
 picture-room-spec =
-    tie.close
-    (tie.spec
-    most-tiles-requires
-    mul-least
-    cast-least
-    div-least
-    least-requires
-    returns
-    cast-least-2
-    least-requires-2
-    returns-2)
+    tie.close (tie.spec most-tiles-requires mul-least cast-least div-least least-requires room-requires returns)

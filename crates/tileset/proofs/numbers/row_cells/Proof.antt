@@ -1,6 +1,6 @@
 -- Sixteen for snes.
 use borrow.Author.Tests.{eq-eqb, ne-eqb}
-use Rattle.tileset.specs.Sets.{snes}
+use Rattle.mode.specs.Table.{snes}
 use Rattle.tileset.proofs.numbers.row_cells.Statement.{statement}
 use Rattle.tileset.proofs.numbers.row_cells.Tie as tie
 

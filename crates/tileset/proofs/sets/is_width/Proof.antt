@@ -5,7 +5,7 @@ use lib.Dec.{eqb}
 use borrow.Author.Tests.{eq-eqb, ne-eqb}
 use borrow.Author.Needs.{needs}
 use Rattle.mode.specs.Table.{pce-sprite}
-use Rattle.tileset.specs.Sets.{snes}
+use Rattle.mode.specs.Table.{snes}
 use Rattle.tileset.proofs.sets.is_width.Statement.{statement}
 use Rattle.tileset.proofs.sets.is_width.Tie as tie
 
