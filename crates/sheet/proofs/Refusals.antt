@@ -18,7 +18,7 @@ use Rattle.mapentry.specs.Entry.{misfitOf, misfitSays}
 use Rattle.mapentry.specs.declared.Misfit.{Misfit}
 use Rattle.mapentry.specs.declared.Misfit.the-variants.{Tile, Palette, Flip, Priority, Nothing}
 use Rattle.picture.specs.declared.Settings.{Settings}
-use Rattle.picture.specs.Converting.{places, isSpan, sizeChecks, sizeSays, pictureRoom, needOf, convertChecks, convertSays}
+use Rattle.picture.specs.Converting.{places, isSpan, pictureRoom, needOf, convertChecks, convertSays}
 use Rattle.picture.specs.Entries.{entryAs}
 use Rattle.sheet.specs.Sheet.{sheetLines, sideMost, valuesOf, sheetIn, Within, IsSheet}
 use Rattle.sheet.specs.Program.{tileSpace, mapSpace, outSpace, pictureSays, sheetNumber, numberOf, textOf, Ran}
@@ -58,12 +58,6 @@ misfit-among Flip = tt
 misfit-among Priority = tt
 misfit-among Nothing = tt
 
-size-among : (m d columns rows : ℕ) → Among (sizeSays m d columns rows)
-unfolding Among sizeSays
-size-among m d columns rows =
-    first-among (sizeChecks m d columns rows)
-    (when-among 1 (ltb 15 m) tt, (when-among 2 (eqb m pce-sprite) tt, (when-among 3 (not (hasDepth m d)) tt, (when-among 4 (not (isSpan columns && isSpan rows)) tt, tt))))
-
 -- a sheet's map has 32 x 32 entries of two bytes at most
 map-fits : (z : Settings) → Within sheetLines (valuesOf z) → places z * row (z .mode) .entry ≤ mapSpace
 unfolding row
@@ -76,12 +70,16 @@ says-among : (z : Settings) (pixels : List ℕ) → Within sheetLines (valuesOf 
 unfolding Among convertSays
 says-among z pixels w =
     let enough : 11 when ltb mapSpace (places z * row (z .mode) .entry) ≡ 0 = rw (le-ltb mapSpace (places z * row (z .mode) .entry) (map-fits z w)) in
-    let size = size-among (z .mode) (z .depth) (z .columns) (z .rows) in
+    let known = when-among 1 (ltb 15 (z .mode)) tt in
+    let mapped = when-among 2 (eqb (z .mode) pce-sprite) tt in
+    let deep = when-among 3 (not (hasDepth (z .mode) (z .depth))) tt in
+    let sized = when-among 4 (not (isSpan (z .columns) && isSpan (z .rows))) tt in
     let flips = when-among 5 (z .flip && eqb (row (z .mode) .flips) 0) tt in
     let whole = when-among 7 (not (eqb (length pixels) (64 * places z))) tt in
     let fits = misfit-among (misfitOf (z .mode) (entryAs 0 (z .palette) false false)) in
-    let room = when-among 12 (ltb (pictureRoom z tileSpace) (needOf z pixels)) tt in
-    first-among (convertChecks z pixels tileSpace mapSpace) (size, (flips, (whole, (fits, (subst Among (sym enough) tt, (room, tt))))))
+    let room = when-among 12 (ltb (pictureRoom z tileSpace) (needOf 8 8 z pixels)) tt in
+    first-among (convertChecks z pixels tileSpace mapSpace)
+    (known, (mapped, (deep, (sized, (flips, (whole, (fits, (subst Among (sym enough) tt, (room, tt)))))))))
 
 -- "Program only, before all others: settings lines not as below": 14 exactly where no settings and pixels make the input a sheet
 abbrev pub NoSheet : List ℕ → Type 0
