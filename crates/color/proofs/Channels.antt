@@ -5,11 +5,11 @@ use mathlib.Core.Bool.{Bool}
 use Prim.Native.Nat.{ℕ, _+_, _*_, _-_, _^_, _<_, _≤_}
 use native.Mathlib.Omega.{arith}
 use lib.Dec.{T, eqb, eqb→eq}
-use Rattle.words.specs.Fields.{bitsFor}
-use Rattle.words.specs.Loops.{all}
+use Rattle.words.specs.Inner.{bitsFor, all}
 use Rattle.words.proofs.Loops.{all-at}
 use Rattle.mode.specs.Table.{row}
-use Rattle.color.specs.Channel.{reduced, again, scaledUp, copies}
+use Rattle.color.specs.Channel.{reduced, again, scaledUp}
+use Rattle.color.specs.Inner.{copies}
 use Rattle.color.specs.Color.{coloring}
 use Rattle.color.specs.declared.Rounding.{Rounding}
 use Rattle.color.specs.declared.Rounding.the-variants.{Truncate, Nearest}

@@ -11,8 +11,9 @@ use lib.Pow.{pow-pos}
 use borrow.Author.Tests.{ltb-false, lt-ltb, le-ltb, eqb-true, not-false}
 use Rattle.words.specs.Answers.{_when_}
 use Rattle.words.specs.Bytes.{bytesOf}
-use Rattle.words.specs.Fields.{Field, bitsFor, join}
-use Rattle.words.specs.Loops.{each, some, all}
+use Rattle.words.specs.Fields.{Field, join}
+use Rattle.words.specs.Inner.{bitsFor, all}
+use Rattle.words.specs.Loops.{each, some}
 use Rattle.words.proofs.Answers.{all-passed, not-given}
 use Rattle.words.proofs.Bytes.{length-bytes}
 use Rattle.words.proofs.Fields.{Held}

@@ -8,8 +8,8 @@ use native.Mathlib.Nat.{div-one}
 use native.Mathlib.Omega.{arith}
 use lib.Dec.{T, eqb, leb, ltb, leb→le, ltb→lt, eqb→eq, lit<}
 use lib.ListN.{getD}
-use Rattle.words.specs.Fields.{bitsFor, areFields, startOf, join, split}
-use Rattle.words.specs.Loops.{all}
+use Rattle.words.specs.Fields.{join, split}
+use Rattle.words.specs.Inner.{bitsFor, areFields, startOf, all}
 use Rattle.words.proofs.Fields.{Held}
 use Rattle.words.proofs.Loops.{all-at, both-left, both-right}
 use Rattle.words.proofs.Starts.{once, once-found}

@@ -11,8 +11,8 @@ use lib.ListN.{length, getD, take, drop, length-drop, drop-of-length-le}
 use lib.Seq.{take-all, drop-cons, length-take-le}
 use borrow.Author.Tests.{ltb-true, ltb-false, eqb-true, eqb-false, eq-eqb, ne-eqb}
 use Rattle.words.specs.Bytes.{wordOf, areBytes}
-use Rattle.words.specs.Fields.{join, bitsOf, areFields}
-use Rattle.words.specs.Loops.{all}
+use Rattle.words.specs.Fields.{join}
+use Rattle.words.specs.Inner.{bitsOf, areFields, all}
 use Rattle.words.proofs.Bytes.{length-bytes, bytes-take, bytes-drop}
 use Rattle.words.proofs.Fields.{Held, length-split, split-held, values-back, bytes-back}
 use Rattle.words.proofs.Loops.{all-at}

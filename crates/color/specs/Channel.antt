@@ -27,10 +27,6 @@ again (suc k) n v left = cond (leb left n) (v / 2 ^ (n - left)) (v * 2 ^ (left -
 unfoldable pub scaledUp : ℕ → ℕ → ℕ
 scaledUp top v = again 4 (bitsUpTo top) v 8
 
--- The same as the code adds it: the bits at the top of eight, and as often again as they fit below.
-abbrev pub copies : ℕ → ℕ → ℕ
-copies bits x = x + x / 2 ^ bits + x / 2 ^ (bits + bits) + x / 2 ^ (bits + bits + bits)
-
 abbrev pub modeChecks : ℕ → List ℕ
 modeChecks m = 1 when ltb 15 m ∷ []
 

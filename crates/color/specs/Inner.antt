@@ -8,7 +8,7 @@ use lib.Dec.{ltb, eqb}
 use lib.ListN.{length, getD, take, drop}
 use Rattle.words.specs.Answers.{_when_, firstApplying}
 use Rattle.words.specs.Bytes.{bytesOf, wordOf}
-use Rattle.words.specs.Fields.{bitsFor, startOf}
+use Rattle.words.specs.Inner.{bitsFor, startOf}
 use Rattle.words.specs.Loops.{some}
 use Rattle.mode.specs.Table.{row}
 use Rattle.color.specs.Color.{Coloring, coloring, above, packable, packedSize, colorCount, opaque}
@@ -108,3 +108,7 @@ placedUnpackChecks l len space = 7 when not (readable l len) ∷ 11 when ltb spa
 
 unfoldable pub placedUnpackSays : ColorPlaces → ℕ → ℕ → ℕ
 placedUnpackSays l len space = firstApplying (placedUnpackChecks l len space)
+
+-- The same as the code adds it: the bits at the top of eight, and as often again as they fit below.
+abbrev pub copies : ℕ → ℕ → ℕ
+copies bits x = x + x / 2 ^ bits + x / 2 ^ (bits + bits) + x / 2 ^ (bits + bits + bits)

@@ -13,8 +13,8 @@ ghost use Rattle.words.specs.Answers.{numbered, Wrote, overwrite};
 ghost use Rattle.words.specs.Loops.{each, some};
 ghost use Rattle.mode.specs.Table.{row};
 ghost use Rattle.color.specs.Color.{above, packSays, packed, unpackSays, unpacked, packable, packedSize, colorCount, opaque};
-ghost use Rattle.color.specs.Inner.{laid, placesOf, Sound, Within, AllWithin, wordWith, colorWord, fourWord, colorBytes, placedPackSays, valueAt, grayAt, colorFrom, fourFrom, wordFrom, readable, placedUnpackSays};
-ghost use Rattle.color.specs.Channel.{modeSays, reduced, scaleSays, scaledUp, copies};
+ghost use Rattle.color.specs.Inner.{laid, placesOf, Sound, Within, AllWithin, wordWith, colorWord, fourWord, colorBytes, placedPackSays, valueAt, grayAt, colorFrom, fourFrom, wordFrom, readable, placedUnpackSays, copies};
+ghost use Rattle.color.specs.Channel.{modeSays, reduced, scaleSays, scaledUp};
 
 // How a mode's colours stand in its words: whether a word has grays, and four of them; its bytes, and whether the most stands first; the top
 // and the bits of a component; the places of r, g and b, or of the grays.

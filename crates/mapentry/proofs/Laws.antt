@@ -11,7 +11,7 @@ use lib.Pow.{pow-mono}
 use borrow.Author.Tests.{ltb-true, ltb-false, eqb-false, lt-ltb}
 use Rattle.words.specs.Answers.{_when_, firstApplying}
 use Rattle.words.specs.Bytes.{bit}
-use Rattle.words.specs.Fields.{bitsOf}
+use Rattle.words.specs.Inner.{bitsOf}
 use Rattle.words.proofs.Answers.{all-passed, not-given, before-space, no-space, space-left}
 use Rattle.words.proofs.Fields.{join-lt}
 use Rattle.words.proofs.Loops.{all-at}

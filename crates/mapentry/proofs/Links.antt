@@ -11,8 +11,8 @@ use lib.Dec.{T, leb, eqb, leb→le, eqb→eq}
 use lib.ListN.{length, getD}
 use borrow.Author.Tests.{le-ltb, ne-eqb}
 use Rattle.words.specs.Bytes.{bit}
-use Rattle.words.specs.Fields.{Field, split, bitsFor, areFields, startOf, runOf, startAgain}
-use Rattle.words.specs.Loops.{all}
+use Rattle.words.specs.Fields.{Field, split}
+use Rattle.words.specs.Inner.{bitsFor, areFields, startOf, runOf, startAgain, all}
 use Rattle.words.proofs.Answers.{last-given}
 use Rattle.words.proofs.Loops.{all-at}
 use Rattle.words.proofs.Starts.{once, onceAgain, bitsAgain, once-found, run-found}

@@ -12,8 +12,8 @@ use lib.ListN.{length, getD}
 use lib.Pow.{pow-pos, pow-mono}
 use lib.Seq.{ext-getD}
 use Rattle.words.specs.Bytes.{bit, wordOf, areBytes}
-use Rattle.words.specs.Fields.{bitsOf, bitsFor, areFields, split}
-use Rattle.words.specs.Loops.{all}
+use Rattle.words.specs.Fields.{split}
+use Rattle.words.specs.Inner.{bitsOf, bitsFor, areFields, all}
 use Rattle.words.proofs.Fields.{Held, length-split, split-join, split-held, values-back, bytes-back}
 use Rattle.words.proofs.Loops.{all-at}
 use Rattle.mode.specs.Table.{row}

@@ -6,7 +6,8 @@ use mathlib.Core.List.{List}
 use lib.Dec.{eqb}
 use lib.ListN.{length}
 use Rattle.words.specs.Answers.{_when_}
-use Rattle.words.specs.Fields.{Field, bitsFor, startOf, runOf, startAgain}
+use Rattle.words.specs.Fields.{Field}
+use Rattle.words.specs.Inner.{bitsFor, startOf, runOf, startAgain}
 use Rattle.mapentry.specs.declared.Mapentry.{Mapentry}
 use Rattle.mapentry.specs.declared.Places.{Places}
 

@@ -9,10 +9,11 @@ use lib.Dec.{T, eqb, leb, ltb, leb→le, ltb→lt}
 use lib.ListN.{length, getD, take, replicate}
 use borrow.Author.Tests.{eq-eqb, ne-eqb}
 use Rattle.words.specs.Bytes.{same}
-use Rattle.words.specs.Loops.{all}
+use Rattle.words.specs.Inner.{all}
 use Rattle.words.proofs.Bytes.{same-eq, read-off}
 use Rattle.words.proofs.Loops.{all-at}
-use Rattle.mode.specs.Table.{rows, row, depthAt, three, numbers, modeOf, oneOf, hasDepth}
+use Rattle.mode.specs.Table.{rows, row, modeOf, oneOf, hasDepth}
+use Rattle.mode.specs.Inner.{depthAt, three, numbers}
 use Rattle.mode.specs.Names.{names, nameOf, namedFrom}
 use Rattle.mode.specs.declared.Named.the-variants.{Console}
 

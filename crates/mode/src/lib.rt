@@ -5,7 +5,8 @@ ghost use mathlib.Core.Path.{_≡_};
 ghost use Prim.Native.Nat.{_<_, _≤_};
 ghost use lib.ListN.{getD};
 ghost use Rattle.words.specs.Bytes.{same};
-ghost use Rattle.mode.specs.Table.{row, numbers, hasDepth, entryBits, Few, consoles};
+ghost use Rattle.mode.specs.Table.{row, hasDepth};
+ghost use Rattle.mode.specs.Inner.{numbers, entryBits, Few, consoles};
 ghost use Rattle.mode.specs.Names.{nameOf, modeNamed};
 
 // All sixteen modes in one fixed table. A mode with fewer than three depths repeats its last; flips and priority are numbers of bits.

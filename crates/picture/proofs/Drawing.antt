@@ -11,8 +11,7 @@ use Rattle.words.specs.Loops.{each}
 use Rattle.words.proofs.Items.{each-eq, item-getD, item-inside}
 use Rattle.words.proofs.Loops.{length-each, sets-front}
 use Rattle.mode.specs.Table.{row}
-use Rattle.tile.specs.Inner.{Unpacks}
-use Rattle.tile.specs.Packings.{byteCount, unpackedIn}
+use Rattle.tile.specs.Inner.{Unpacks, byteCount, unpackedIn}
 use Rattle.tile.specs.Tile.{packingOf, layoutOf, unpacked}
 use Rattle.tile.specs.declared.Packing.{Packing}
 use Rattle.tile.proofs.Native.{Native, fitting}

@@ -17,8 +17,8 @@ use Rattle.words.proofs.Items.{none-at}
 use Rattle.words.proofs.Loops.{sets-front}
 use Rattle.words.proofs.Order.{first-append}
 use Rattle.mode.specs.Table.{hasDepth}
-use Rattle.tile.specs.Packings.{layoutIn, pixelCount, byteCount, packedIn, unpackedIn}
-use Rattle.tile.specs.Inner.{Packs, Unpacks}
+use Rattle.tile.specs.Packings.{layoutIn}
+use Rattle.tile.specs.Inner.{pixelCount, byteCount, packedIn, unpackedIn, Packs, Unpacks}
 use Rattle.tile.specs.Tile.{packingOf, isNative, tooLarge, tileChecks, packChecks, unpackChecks, tileSays, packSays, unpackSays, packed, unpacked}
 use Rattle.tile.specs.declared.Packing.{Packing}
 use Rattle.tile.proofs.RoundTrip.{length-spread}

@@ -10,8 +10,8 @@ use lib.ListN.{length, getD}
 use borrow.Author.Tests.{lt-ltb}
 use Rattle.words.specs.Bytes.{areBytes}
 use Rattle.words.proofs.Loops.{both-left, both-right, both}
-use Rattle.tile.specs.Packings.{layoutIn, pixelCount, byteCount, packedIn, unpackedIn}
-use Rattle.tile.specs.Inner.{isPacking}
+use Rattle.tile.specs.Packings.{layoutIn}
+use Rattle.tile.specs.Inner.{pixelCount, byteCount, packedIn, unpackedIn, isPacking}
 use Rattle.tile.specs.Tile.{packingOf, layoutOf, tileSays, packSays, unpackSays, packed, unpacked}
 use Rattle.tile.specs.declared.Packing.{Packing}
 use Rattle.tile.specs.declared.Packing.the-variants.{Planar, Ngp, LowFirst, HighFirst, Plain, Sprite}

@@ -4,11 +4,11 @@ use mathlib.Core.Path.{_≡_}
 use mathlib.Core.Bool.{Bool, _&&_}
 use Prim.Native.Nat.{ℕ, _*_, _/_, _<_, _≤_}
 use lib.Dec.{T, leb, eqb, leb→le, eqb→eq}
-use Rattle.words.specs.Loops.{all}
+use Rattle.words.specs.Inner.{all}
 use Rattle.words.proofs.Loops.{both-left, both-right, all-at}
 use Rattle.mode.specs.Table.{row, oneOf, hasDepth}
-use Rattle.tile.specs.Packings.{layoutIn, pixelCount, byteCount}
-use Rattle.tile.specs.Inner.{isPacking}
+use Rattle.tile.specs.Packings.{layoutIn}
+use Rattle.tile.specs.Inner.{pixelCount, byteCount, isPacking}
 use Rattle.tile.specs.Tile.{packingOf, widths, heights, isNative}
 use Rattle.tile.proofs.Packings.{inEach, each-at}
 

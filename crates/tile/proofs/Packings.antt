@@ -7,12 +7,12 @@ use Prim.Native.Nat.{ℕ, _+_, _*_, _/_, _%_, _≤_, _<_}
 use native.Mathlib.Nat.{mul-le-mul-right, suc-mul, mul-comm}
 use native.Mathlib.Omega.{arith}
 use lib.Dec.{T, ltb, leb, eqb, ltb→lt, leb→le, eqb→eq}
-use Rattle.words.specs.Loops.{all}
+use Rattle.words.specs.Inner.{all}
 use Rattle.words.proofs.Loops.{both-left, both-right, all-at}
 use Rattle.mode.specs.Table.{oneOf}
 use Rattle.tile.specs.Layout.{element}
-use Rattle.tile.specs.Packings.{planar, sprite, spriteByte, layoutIn, pixelCount, byteCount}
-use Rattle.tile.specs.Inner.{isPacking, Planes, HasByte, HasPixel}
+use Rattle.tile.specs.Packings.{planar, sprite, spriteByte, layoutIn}
+use Rattle.tile.specs.Inner.{pixelCount, byteCount, isPacking, Planes, HasByte, HasPixel}
 use Rattle.tile.specs.declared.Packing.{Packing}
 use Rattle.tile.specs.declared.Packing.the-variants.{Planar, Ngp, LowFirst, HighFirst, Plain, Sprite}
 use Rattle.tile.proofs.RoundTrip.{isLayout, from-pixels}

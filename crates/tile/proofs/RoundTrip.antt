@@ -9,7 +9,7 @@ use native.Mathlib.Omega.{arith}
 use lib.Dec.{T, ltb, eqb, ltb→lt, eqb→eq}
 use lib.ListN.{length, getD}
 use lib.Seq.{ext-getD}
-use Rattle.words.specs.Loops.{all}
+use Rattle.words.specs.Inner.{all}
 use Rattle.words.proofs.Loops.{both-left, both-right, all-at}
 use Rattle.tile.specs.Bits.{bitOf}
 use Rattle.tile.specs.Layout.{Side, Layout, element, spread}

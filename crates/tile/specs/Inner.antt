@@ -8,9 +8,24 @@ use lib.Dec.{T, ltb, eqb}
 use lib.ListN.{length, getD}
 use Rattle.mode.specs.Table.{oneOf}
 use Rattle.tile.specs.Bits.{bitOf, fromBits}
-use Rattle.tile.specs.Packings.{pixelCount, byteCount}
+use Rattle.tile.specs.Packings.{layoutIn}
 use Rattle.tile.specs.declared.Packing.{Packing}
 use Rattle.tile.specs.declared.Packing.the-variants.{Planar, Ngp, LowFirst, HighFirst, Plain, Sprite}
+use Rattle.tile.specs.Layout.{spread}
+
+-- How many pixels and bytes a packing has; and the bytes of its pixels, and back.
+abbrev pub pixelCount : Packing → ℕ
+pixelCount p = layoutIn p .pixels .count
+
+abbrev pub byteCount : Packing → ℕ
+byteCount p = layoutIn p .bytes .count
+
+-- The bytes of a tile's pixels, and the pixels of its bytes.
+abbrev pub packedIn : Packing → List ℕ → List ℕ
+packedIn p pixels = spread (layoutIn p .bytes) pixels
+
+abbrev pub unpackedIn : Packing → List ℕ → List ℕ
+unpackedIn p bytes = spread (layoutIn p .pixels) bytes
 
 -- The packings that there are: at most eight planes, in whole groups of one, two or four; and the six sizes of a sprite.
 abbrev pub isPacking : Packing → Bool

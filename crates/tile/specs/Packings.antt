@@ -1,8 +1,7 @@
 -- "Tile bytes": the layouts of document 01. Pixel i of a tile w wide stands in column i % w of row i / w.
 -- Assumes nothing.
-use mathlib.Core.List.{List}
 use Prim.Native.Nat.{ℕ, _+_, _-_, _*_, _/_, _%_}
-use Rattle.tile.specs.Layout.{Layout, spread}
+use Rattle.tile.specs.Layout.{Layout}
 use Rattle.tile.specs.declared.Packing.{Packing}
 use Rattle.tile.specs.declared.Packing.the-variants.{Planar, Ngp, LowFirst, HighFirst, Plain, Sprite}
 
@@ -75,16 +74,3 @@ layoutIn LowFirst = lowFirst 8 8
 layoutIn HighFirst = highFirst 8 8
 layoutIn Plain = plain 8 8
 layoutIn (Sprite w h) = sprite w h
-
-abbrev pub pixelCount : Packing → ℕ
-pixelCount p = layoutIn p .pixels .count
-
-abbrev pub byteCount : Packing → ℕ
-byteCount p = layoutIn p .bytes .count
-
--- The bytes of a tile's pixels, and the pixels of its bytes.
-abbrev pub packedIn : Packing → List ℕ → List ℕ
-packedIn p pixels = spread (layoutIn p .bytes) pixels
-
-abbrev pub unpackedIn : Packing → List ℕ → List ℕ
-unpackedIn p bytes = spread (layoutIn p .pixels) bytes

@@ -13,8 +13,8 @@ ghost use Rattle.words.specs.Answers.{Wrote};
 ghost use Rattle.words.specs.Loops.{some};
 ghost use Rattle.mode.specs.Table.{oneOf};
 ghost use Rattle.tile.specs.Layout.{element};
-ghost use Rattle.tile.specs.Packings.{planar, ngp, lowFirst, highFirst, plain, sprite, layoutIn, pixelCount, byteCount, packedIn, unpackedIn};
-ghost use Rattle.tile.specs.Inner.{columnOf, planeByte, cellByte, isPacking, Group, Planes, HasCell, HasByte, HasPixel, Packs, Unpacks};
+ghost use Rattle.tile.specs.Packings.{planar, ngp, lowFirst, highFirst, plain, sprite, layoutIn};
+ghost use Rattle.tile.specs.Inner.{pixelCount, byteCount, packedIn, unpackedIn, columnOf, planeByte, cellByte, isPacking, Group, Planes, HasCell, HasByte, HasPixel, Packs, Unpacks};
 ghost use Rattle.tile.specs.Tile.{pairs, fours, gbaPacking, wscPacking, packingOf, isNative, tooLarge, tileSays, packSays, unpackSays, packed, unpacked};
 
 // How the bits of a tile's pixels stand in its bytes.

@@ -11,7 +11,8 @@ use Rattle.words.proofs.Answers.{either-way, when-refused}
 use Rattle.tileset.specs.Sets.{roomIn, lookChecks, lookSays}
 use Rattle.tileset.specs.Finding.{foundIn, isFound}
 use Rattle.tileset.specs.Adding.{discards, noRoom, counterFull, endChecks, oneStored, oneDiscarded, atEnd, addedBy, storeBy}
-use Rattle.tileset.specs.Adding.{addSays, added, storeWith, Adds, AddsBy, AddsTile, Stores, discardAnswer}
+use Rattle.tileset.specs.Adding.{addSays, added, storeWith, Adds, AddsTile}
+use Rattle.tileset.specs.Inner.{AddsBy, Stores, discardAnswer}
 use Rattle.tileset.specs.declared.Set.{Set}
 use Rattle.tileset.specs.declared.SetAnswer.{SetAnswer}
 use Rattle.tileset.specs.declared.Found.{Found}

@@ -16,8 +16,7 @@ use Rattle.words.proofs.Answers.{all-passed, not-given, when-done, when-refused
 use Rattle.words.proofs.Items.{item-getD, item-inside, item-end, each-eq}
 use Rattle.words.proofs.Loops.{length-each}
 use Rattle.mode.specs.Table.{hasDepth, pce-sprite}
-use Rattle.tile.specs.Inner.{Unpacks}
-use Rattle.tile.specs.Packings.{byteCount, unpackedIn}
+use Rattle.tile.specs.Inner.{Unpacks, byteCount, unpackedIn}
 use Rattle.tile.specs.Tile.{packingOf, layoutOf, unpacked}
 use Rattle.tile.specs.declared.Packing.{Packing}
 use Rattle.tile.proofs.Native.{Native, fitting}

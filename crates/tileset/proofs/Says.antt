@@ -14,8 +14,7 @@ use Rattle.words.proofs.Answers.{all-passed, not-given, first-given, when-done,
 use Rattle.words.proofs.Order.{first-append}
 use Rattle.tileset.specs.Sets.{area, setRoom, roomIn, setChecks, setSays, heldSays, lookChecks, lookSays, answeredSet, heldChecks, roomUnder}
 use Rattle.tileset.specs.Finding.{noPlace, placeOf, placed}
-use Rattle.tileset.specs.Numbers.{nativeAnswer, logicalAnswer}
-use Rattle.tileset.specs.Inner.{Looks}
+use Rattle.tileset.specs.Inner.{nativeAnswer, logicalAnswer, Looks}
 use Rattle.tileset.specs.declared.Set.{Set}
 use Rattle.tileset.specs.declared.SetAnswer.{SetAnswer}
 use Rattle.tileset.specs.declared.Found.{Found}

@@ -17,8 +17,7 @@ use Rattle.words.proofs.Filling.{Filled, filled-more}
 use Rattle.words.proofs.Items.{item-getD, item-inside}
 use Rattle.words.proofs.Loops.{length-each}
 use Rattle.mode.specs.Table.{pce-sprite}
-use Rattle.tile.specs.Inner.{Packs}
-use Rattle.tile.specs.Packings.{pixelCount, packedIn}
+use Rattle.tile.specs.Inner.{Packs, pixelCount, packedIn}
 use Rattle.tile.specs.Tile.{isNative, packingOf, layoutOf, packed, tooLarge}
 use Rattle.tile.specs.declared.Packing.{Packing}
 use Rattle.tile.proofs.Native.{Native, fitting}

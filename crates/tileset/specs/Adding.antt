@@ -62,17 +62,5 @@ pub record Adds (refusal : ℕ) (set next : Set) (before with : List ℕ) (r : S
   pub answer : r ≡ answeredSet refusal next set
   pub lent : after ≡ unless refusal with before
 
--- Of adding after some first checks, with a found place and a room; and of adding to a set.
-abbrev pub AddsBy : List ℕ → Set → Found → ℕ → List ℕ → List ℕ → SetAnswer → List ℕ → Type 0
-AddsBy firsts z found room store pixels r after =
-    Adds (firstApplying (firsts ++ endChecks z found room)) z (addedBy z found) store (storeBy z found store pixels) r after
-
 abbrev pub AddsTile : Set → List ℕ → List ℕ → SetAnswer → List ℕ → Type 0
 AddsTile z store pixels r after = Adds (addSays z store pixels) z (added z store pixels) store (storeWith z store pixels) r after
-
--- Of its two ends, the tile stored, "or 12"; and the match counted, or 13.
-abbrev pub Stores : Set → ℕ → List ℕ → List ℕ → SetAnswer → List ℕ → Type 0
-Stores z room store pixels r after = Adds (12 when noRoom z room) z (oneStored z) store (atEnd z store pixels) r after
-
-abbrev pub discardAnswer : Set → SetAnswer
-discardAnswer z = answeredSet (13 when counterFull z) (oneDiscarded z) z

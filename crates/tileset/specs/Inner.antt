@@ -1,16 +1,23 @@
 -- What the inner functions of tile sets ask of their callers, and what they compute on the way: no export's contract reaches it.
 -- Assumes nothing.
 use mathlib.Core.Path.{_≡_}
-use mathlib.Core.List.{List, [], _∷_}
+use mathlib.Core.List.{List, [], _∷_, _++_}
 use Prim.Native.Nat.{ℕ, _+_, _*_, _/_, _%_, _<_, _≤_}
 use lib.ListN.{length, getD}
 use Rattle.words.specs.Loops.{each}
-use Rattle.mode.specs.Table.{pce-sprite}
-use Rattle.tileset.specs.Sets.{area, setSays, heldSays}
+use Rattle.mode.specs.Table.{pce-sprite, oneOf}
+use Rattle.tileset.specs.Sets.{area, setSays, heldSays, answeredSet, sides}
 use Rattle.tileset.specs.Numbers.{rowCells, firstCell, tileOf}
 use Rattle.tileset.specs.Writing.{writeSize}
 use Rattle.tileset.specs.Reading.{readCount, cellIn, lastCell}
 use Rattle.tileset.specs.declared.Set.{Set}
+use Rattle.words.specs.Answers.{_when_, firstApplying, unless}
+use Rattle.tileset.specs.declared.SetAnswer.{SetAnswer}
+use Rattle.tileset.specs.declared.Found.{Found}
+use Rattle.tileset.specs.Adding.{noRoom, counterFull, endChecks, oneStored, oneDiscarded, atEnd, addedBy, storeBy, Adds}
+use Rattle.tileset.specs.declared.NativeAnswer.{NativeAnswer}
+use Rattle.tileset.specs.declared.LogicalAnswer.{LogicalAnswer}
+use mathlib.Core.Bool.{Bool}
 
 -- ---- finding: cutting pixels into a buffer, searching some tiles of a store, and searching a set
 
@@ -105,3 +112,24 @@ placeIn w y x = (y / 8 * (w / 8) + x / 8) * 64 + y % 8 * 8 + x % 8
 
 abbrev pub rowOf : ℕ → List ℕ → ℕ → List ℕ
 rowOf w cells y = each w (λ x. getD cells (placeIn w y x) 0 ∷ [])
+
+-- Of adding after some first checks, with a found place and a room; and of adding to a set.
+abbrev pub AddsBy : List ℕ → Set → Found → ℕ → List ℕ → List ℕ → SetAnswer → List ℕ → Type 0
+AddsBy firsts z found room store pixels r after =
+    Adds (firstApplying (firsts ++ endChecks z found room)) z (addedBy z found) store (storeBy z found store pixels) r after
+
+-- Of its two ends, the tile stored, "or 12"; and the match counted, or 13.
+abbrev pub Stores : Set → ℕ → List ℕ → List ℕ → SetAnswer → List ℕ → Type 0
+Stores z room store pixels r after = Adds (12 when noRoom z room) z (oneStored z) store (atEnd z store pixels) r after
+
+abbrev pub discardAnswer : Set → SetAnswer
+discardAnswer z = answeredSet (13 when counterFull z) (oneDiscarded z) z
+
+abbrev pub nativeAnswer : ℕ → ℕ → NativeAnswer
+nativeAnswer n cell = record { refusal = n; number = record { 0 = unless n cell 0 } }
+
+abbrev pub logicalAnswer : ℕ → ℕ → LogicalAnswer
+logicalAnswer n tile = record { refusal = n; number = record { 0 = unless n tile 0 } }
+
+abbrev pub isSide : ℕ → Bool
+isSide n = oneOf n sides

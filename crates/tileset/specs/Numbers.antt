@@ -4,11 +4,9 @@ use mathlib.Core.Bool.{not, cond}
 use mathlib.Core.List.{List, [], _∷_, _++_}
 use Prim.Native.Nat.{ℕ, _+_, _*_, _/_, _%_}
 use lib.Dec.{ltb, eqb}
-use Rattle.words.specs.Answers.{_when_, firstApplying, unless}
+use Rattle.words.specs.Answers.{_when_, firstApplying}
 use Rattle.mode.specs.Table.{snes, pce-sprite}
 use Rattle.tileset.specs.Sets.{isSize}
-use Rattle.tileset.specs.declared.NativeAnswer.{NativeAnswer}
-use Rattle.tileset.specs.declared.LogicalAnswer.{LogicalAnswer}
 
 -- "With R = 16 cells a row for snes and 1 for others, H and V cells per tile, T = R/H."
 abbrev pub rowCells : ℕ → ℕ
@@ -48,9 +46,3 @@ logicalChecks m w h c = nativeChecks m w h (tileOf m w h c)
 
 abbrev pub logicalSays : ℕ → ℕ → ℕ → ℕ → ℕ
 logicalSays m w h c = nativeSays m w h (tileOf m w h c)
-
-abbrev pub nativeAnswer : ℕ → ℕ → NativeAnswer
-nativeAnswer n cell = record { refusal = n; number = record { 0 = unless n cell 0 } }
-
-abbrev pub logicalAnswer : ℕ → ℕ → LogicalAnswer
-logicalAnswer n tile = record { refusal = n; number = record { 0 = unless n tile 0 } }

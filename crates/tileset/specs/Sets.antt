@@ -19,9 +19,6 @@ widths m = cond (eqb m snes) sides (cond (eqb m pce-sprite) (16 ∷ 32 ∷ []) (
 abbrev pub heights : ℕ → List ℕ
 heights m = cond (eqb m pce-sprite) (16 ∷ 32 ∷ 64 ∷ []) sides
 
-abbrev pub isSide : ℕ → Bool
-isSide n = oneOf n sides
-
 abbrev pub isWidth : ℕ → ℕ → Bool
 isWidth m w = oneOf w (widths m)
 

@@ -10,8 +10,8 @@ use words::refusal;
 ghost use mathlib.Core.Path.{_≡_};
 ghost use lib.ListN.{length};
 ghost use Rattle.tileset.specs.Sets.{roomIn};
-ghost use Rattle.tileset.specs.Adding.{Stores, discardAnswer, AddsTile};
-ghost use Rattle.tileset.specs.Inner.{Looks};
+ghost use Rattle.tileset.specs.Adding.{AddsTile};
+ghost use Rattle.tileset.specs.Inner.{Stores, discardAnswer, Looks};
 
 // The tile goes at the end, where there is room.
 fn append(set: Set, store: &mut [u8], pixels: &[u8]) -> SetAnswer

@@ -5,7 +5,8 @@ use mode::Mode;
 use words::refusal;
 ghost use mathlib.Core.Path.{_≡_};
 ghost use mathlib.Core.List.{[]};
-ghost use Rattle.tileset.specs.Sets.{isSide, isWidth, isHeight, setSays, roomUnder, setRoom, heldSays, lookSays, noSet, emptied, newSet, answeredSet};
+ghost use Rattle.tileset.specs.Sets.{isWidth, isHeight, setSays, roomUnder, setRoom, heldSays, lookSays, noSet, emptied, newSet, answeredSet};
+ghost use Rattle.tileset.specs.Inner.{isSide};
 
 fn is_side(n: u32) -> bool
     ensures { λ r. ⌜ r ≡ isSide n ⌝ }

@@ -12,7 +12,8 @@ use lib.Seq.{getD-set-same, getD-set-other, set-set, set-getD, ext-getD}
 use lib.Pow.{pow-pos, pow-add}
 use borrow.Author.Tests.{eqb-true, eqb-false}
 use Rattle.words.specs.Bytes.{bytesOf, wordOf, areBytes}
-use Rattle.words.specs.Fields.{Field, join, split, bitsOf, bitsFor, areFields}
+use Rattle.words.specs.Fields.{Field, join, split}
+use Rattle.words.specs.Inner.{bitsOf, bitsFor, areFields}
 use Rattle.words.proofs.Bytes.{word-bytes, bytes-word, word-lt}
 use Rattle.words.proofs.Loops.{both-left, both-right}
 

@@ -11,7 +11,8 @@ use lib.Dec.{T}
 use lib.ListN.{length, drop, length-append, length-drop}
 use lib.Seq.{sets, sets-eq, take-at, drop-at, drop-drop}
 use Rattle.words.specs.Answers.{overwrite}
-use Rattle.words.specs.Loops.{each, some, all}
+use Rattle.words.specs.Loops.{each, some}
+use Rattle.words.specs.Inner.{all}
 
 pub both-left : (a b : Bool) → T (a && b) → T a
 both-left true b t = tt

@@ -11,7 +11,8 @@ use lib.ListN.{length, getD, set}
 use lib.Pow.{shr-shr, mod-pow-add, pow-add}
 use lib.Seq.{getD-set-same, getD-set-other}
 use borrow.Author.Tests.{eqb-true, eqb-false}
-use Rattle.words.specs.Fields.{Field, split, bitsFor, areFields, startOf, runOf, startAgain}
+use Rattle.words.specs.Fields.{Field, split}
+use Rattle.words.specs.Inner.{bitsFor, areFields, startOf, runOf, startAgain}
 use Rattle.words.proofs.Fields.{Held, length-split, split-held, first-field, other-fields}
 
 -- value k has one field at most; and one at most after those that it begins with

@@ -1,7 +1,7 @@
 -- What counted loops compute, over the items below n.
 -- Assumes nothing.
 use Prim.Native.Nat.{ℕ, zero, suc}
-use mathlib.Core.Bool.{Bool, true, false, _&&_, _||_}
+use mathlib.Core.Bool.{Bool, false, _||_}
 use mathlib.Core.List.{List, [], _++_}
 
 -- The bytes of item 0, of item 1, .., of item n - 1.
@@ -13,8 +13,3 @@ each (suc n) f = each n f ++ f n
 abbrev pub some : ℕ → (ℕ → Bool) → Bool
 some zero f = false
 some (suc n) f = some n f || f n
-
--- Whether every item is as asked.
-abbrev pub all : ℕ → (ℕ → Bool) → Bool
-all zero f = true
-all (suc n) f = f n && all n f

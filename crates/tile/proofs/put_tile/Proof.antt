@@ -8,7 +8,8 @@ use lib.ListN.{take, drop, length}
 use lib.Seq.{sets}
 use borrow.Author.Needs.{needs}
 use Rattle.tile.specs.Layout.{element, spread}
-use Rattle.tile.specs.Packings.{layoutIn, pixelCount}
+use Rattle.tile.specs.Packings.{layoutIn}
+use Rattle.tile.specs.Inner.{pixelCount}
 use Rattle.words.proofs.Filling.{Filled, filled-none, filled-one}
 use Rattle.tile.proofs.Filling.{filled-table, length-part}
 use Rattle.tile.proofs.put_tile.Statement.{statement}

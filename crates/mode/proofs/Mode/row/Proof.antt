@@ -3,7 +3,8 @@ use mathlib.Core.Path.{_≡_, sym, ap}
 use Prim.Native.Nat.{ℕ}
 use native.Mathlib.Omega.{arith}
 use Rattle.words.proofs.Loops.{passed}
-use Rattle.mode.specs.Table.{row, numbers}
+use Rattle.mode.specs.Table.{row}
+use Rattle.mode.specs.Inner.{numbers}
 use borrow.Author.Needs.{needs}
 use Rattle.mode.proofs.Mode.row.Statement.{statement}
 use Rattle.mode.proofs.Mode.row.Tie as tie

@@ -3,7 +3,8 @@ use mathlib.Core.Path.{_≡_, sym, ap, _∙_}
 use Prim.Native.Nat.{ℕ}
 use native.Mathlib.Omega.{arith}
 use borrow.Author.Needs.{needs}
-use Rattle.tileset.specs.Numbers.{gridSays, logicalAnswer}
+use Rattle.tileset.specs.Numbers.{gridSays}
+use Rattle.tileset.specs.Inner.{logicalAnswer}
 use Rattle.tileset.proofs.Sizes.{grid-of}
 use Rattle.tileset.proofs.Says.{refused-logical, done-logical}
 use Rattle.tileset.proofs.NumberLaws.{native-first, native-4, native-0}

@@ -7,8 +7,7 @@ use lib.ListN.{length, take, drop}
 use lib.Seq.{sets}
 use denote.Ref.{now}
 use borrow.Author.Needs.{needs}
-use Rattle.tile.specs.Inner.{Packs}
-use Rattle.tile.specs.Packings.{pixelCount, packedIn}
+use Rattle.tile.specs.Inner.{Packs, pixelCount, packedIn}
 use Rattle.tile.proofs.Native.{Native}
 use Rattle.tileset.specs.Writing.{block, tileAt, cellPixels, cellBytes}
 use Rattle.tileset.specs.declared.Set.{Set}

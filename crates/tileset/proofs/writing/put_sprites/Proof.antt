@@ -8,7 +8,7 @@ use lib.ListN.{length}
 use denote.Ref.{now}
 use borrow.Author.Needs.{needs}
 use Rattle.words.proofs.Filling.{Filled, filled-none, filled-front}
-use Rattle.tile.specs.Packings.{byteCount}
+use Rattle.tile.specs.Inner.{byteCount}
 use Rattle.tile.proofs.Native.{Native, fitting}
 use Rattle.tileset.specs.Sets.{area}
 use Rattle.tileset.specs.Writing.{spriteBytes}
