@@ -15,8 +15,7 @@ use Rattle.words.proofs.Items.{item-getD}
 use Rattle.words.proofs.Loops.{length-each}
 use Rattle.flip.proofs.Group.{place-lt, place-row, place-column, row-lt}
 use Rattle.mode.specs.Table.{snes}
-use Rattle.tileset.specs.Numbers.{rowCells, startsAt, belongsTo, firstCell, tileOf}
-use Rattle.tileset.specs.Inner.{Grid}
+use Rattle.tileset.specs.Numbers.{rowCells, startsAt, belongsTo, firstCell, tileOf, Grid}
 use Rattle.tileset.proofs.NumberLaws.{first-8, tile-8 as cell-8}
 use Rattle.tileset.proofs.Stores.{cut-at}
 use Rattle.picture.specs.Cells.{pixelAt, tileOver, placeOver, cutTile}

@@ -9,8 +9,7 @@ use lib.Dec.{ltb}
 use borrow.Author.Tests.{lt-ltb, le-ltb}
 use Rattle.words.specs.Answers.{_when_}
 use Rattle.flip.proofs.Group.{place-lt, place-row, place-column}
-use Rattle.tileset.specs.Numbers.{startsAt, belongsTo, rowCells, firstCell, tileOf, gridChecks, gridSays, nativeSays}
-use Rattle.tileset.specs.Inner.{Grid}
+use Rattle.tileset.specs.Numbers.{startsAt, belongsTo, rowCells, firstCell, tileOf, gridChecks, gridSays, nativeSays, Grid}
 use Rattle.tileset.proofs.Sizes.{grid-of}
 use Rattle.tileset.proofs.Says.{checks-given, checks-after}
 

@@ -16,10 +16,9 @@ use Rattle.words.proofs.Items.{item-inside, each-eq, whole-parts}
 use Rattle.mode.specs.Table.{pce-sprite}
 use Rattle.flip.proofs.Group.{place-lt}
 use Rattle.tileset.specs.Sets.{area, heldSays}
-use Rattle.tileset.specs.Numbers.{rowCells, firstCell}
+use Rattle.tileset.specs.Numbers.{rowCells, firstCell, Grid}
 use Rattle.tileset.specs.Writing.{paddedCells, cellCount, cellPixels, cellsOf, setBytes, writeSays}
 use Rattle.tileset.specs.Reading.{lastCell, wholeTiles, readCount, readSays, pixelIn, tileIn, readPixels, paddedTiles, tileCount}
-use Rattle.tileset.specs.Inner.{Grid}
 use Rattle.tileset.specs.declared.Set.{Set}
 use Rattle.tileset.proofs.Sizes.{IsSet, grid-set, bits-some}
 use Rattle.tileset.proofs.Says.{held-set, held-says-set}

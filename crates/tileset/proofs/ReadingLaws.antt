@@ -23,9 +23,9 @@ use Rattle.tile.proofs.Native.{Native, fitting}
 use Rattle.tile.proofs.RoundTrip.{length-spread, spread-lt}
 use Rattle.flip.proofs.Group.{place-lt, place-row, place-column}
 use Rattle.tileset.specs.Sets.{isSize, setSays, setRoom, heldSays, noSet, roomUnder}
-use Rattle.tileset.specs.Numbers.{rowCells, startsAt, firstCell}
+use Rattle.tileset.specs.Numbers.{rowCells, startsAt, firstCell, Grid}
 use Rattle.tileset.specs.Reading.{lastCell, wholeFrom, wholeTiles, readCount, readableChecks, readableSays, readSays, readSet, cellIn, pixelIn, rowIn, tileIn, readPixels, Reads}
-use Rattle.tileset.specs.Inner.{Grid, cellsIn, placeIn, rowOf}
+use Rattle.tileset.specs.Inner.{cellsIn, placeIn, rowOf}
 use Rattle.tileset.specs.declared.Set.{Set}
 use Rattle.tileset.specs.declared.SetAnswer.{SetAnswer}
 use Rattle.tileset.proofs.Sizes.{IsSet, set-of, bits-some}

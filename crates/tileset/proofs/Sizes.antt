@@ -12,8 +12,7 @@ use Rattle.words.proofs.Answers.{all-passed, not-given}
 use Rattle.words.proofs.Loops.{both-left, both-right, all-at}
 use Rattle.mode.specs.Table.{row, oneOf, hasDepth, pce-sprite}
 use Rattle.tileset.specs.Sets.{widths, heights, isWidth, isHeight, isSize, setChecks, setSays}
-use Rattle.tileset.specs.Numbers.{rowCells, gridChecks, gridSays}
-use Rattle.tileset.specs.Inner.{Grid}
+use Rattle.tileset.specs.Numbers.{rowCells, gridChecks, gridSays, Grid}
 
 -- a test over each of some numbers, as a rule at each
 abbrev inEach : List ℕ → (ℕ → Bool) → Bool

@@ -23,9 +23,8 @@ use Rattle.tile.specs.declared.Packing.{Packing}
 use Rattle.tile.proofs.Native.{Native, fitting}
 use Rattle.tile.proofs.RoundTrip.{length-spread}
 use Rattle.tileset.specs.Sets.{area, isSize, heldChecks, heldSays}
-use Rattle.tileset.specs.Numbers.{rowCells}
+use Rattle.tileset.specs.Numbers.{rowCells, Grid}
 use Rattle.tileset.specs.Writing.{paddedCells, cellCount, cornerOf, block, tileAt, cornerAt, cellPixels, spriteBytes, cellBytes, cellsOf, setBytes, writeSize, writeSays}
-use Rattle.tileset.specs.Inner.{Grid}
 use Rattle.tileset.specs.declared.Set.{Set}
 use Rattle.tileset.proofs.Sizes.{IsSet, grid-set}
 use Rattle.tileset.proofs.Says.{checks-given, checks-after, checks-first, checks-rest, held-set, held-room, room-most, room-whole}

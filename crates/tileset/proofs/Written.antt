@@ -18,9 +18,8 @@ use Rattle.tile.proofs.Native.{Native, fitting}
 use Rattle.tile.proofs.Laws.{pixels-back-in}
 use Rattle.flip.proofs.Group.{place-lt}
 use Rattle.tileset.specs.Sets.{area, heldSays}
-use Rattle.tileset.specs.Numbers.{rowCells, startsAt, firstCell}
+use Rattle.tileset.specs.Numbers.{rowCells, startsAt, firstCell, Grid}
 use Rattle.tileset.specs.Writing.{paddedCells, cellCount, cornerOf, block, tileAt, cornerAt, cellPixels, cellsOf, spriteBytes, cellBytes, setBytes, writeSays}
-use Rattle.tileset.specs.Inner.{Grid}
 use Rattle.tileset.specs.declared.Set.{Set}
 use Rattle.tileset.proofs.Sizes.{IsSet, grid-set}
 use Rattle.tileset.proofs.Says.{held-set}

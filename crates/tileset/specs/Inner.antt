@@ -7,7 +7,7 @@ use lib.ListN.{length, getD}
 use Rattle.words.specs.Loops.{each}
 use Rattle.mode.specs.Table.{pce-sprite, oneOf}
 use Rattle.tileset.specs.Sets.{area, setSays, heldSays, answeredSet, sides}
-use Rattle.tileset.specs.Numbers.{rowCells, firstCell, tileOf}
+use Rattle.tileset.specs.Numbers.{rowCells, firstCell, tileOf, Grid}
 use Rattle.tileset.specs.Writing.{writeSize}
 use Rattle.tileset.specs.Reading.{readCount, cellIn, lastCell}
 use Rattle.tileset.specs.declared.Set.{Set}
@@ -43,15 +43,6 @@ pub record Looks (z : Set) (store pixels : List ℕ) : Type 0 where
   pub whole : length pixels ≡ area z
 
 -- ---- numbers, writing and reading
-
--- With r, h, v for R, H, V, where the sizes are allowed: whole tiles in a row of cells, and few cells.
-pub record Grid (r h v : ℕ) : Type 0 where
-  pub row : r ≡ r / h * h
-  pub tiles : 0 < r / h
-  pub across : 0 < h
-  pub down : 0 < v
-  pub narrow : r ≤ 16
-  pub low : v ≤ 8
 
 -- What writing a set's bytes asks, and one cell's.
 pub record Writes (z : Set) (store out : List ℕ) : Type 0 where

@@ -1,8 +1,9 @@
 -- "Native numbers count 8x8 cells, logical numbers count whole tiles; one is never taken where the other is due."
 -- Assumes nothing.
+use mathlib.Core.Path.{_≡_}
 use mathlib.Core.Bool.{not, cond}
 use mathlib.Core.List.{List, [], _∷_, _++_}
-use Prim.Native.Nat.{ℕ, _+_, _*_, _/_, _%_}
+use Prim.Native.Nat.{ℕ, _+_, _*_, _/_, _%_, _<_, _≤_}
 use lib.Dec.{ltb, eqb}
 use Rattle.words.specs.Answers.{_when_, firstApplying}
 use Rattle.mode.specs.Table.{snes, pce-sprite}
@@ -46,3 +47,12 @@ logicalChecks m w h c = nativeChecks m w h (tileOf m w h c)
 
 abbrev pub logicalSays : ℕ → ℕ → ℕ → ℕ → ℕ
 logicalSays m w h c = nativeSays m w h (tileOf m w h c)
+
+-- With r, h, v for R, H, V, where the sizes are allowed: whole tiles in a row of cells, and few cells.
+pub record Grid (r h v : ℕ) : Type 0 where
+  pub row : r ≡ r / h * h
+  pub tiles : 0 < r / h
+  pub across : 0 < h
+  pub down : 0 < v
+  pub narrow : r ≤ 16
+  pub low : v ≤ 8

@@ -9,8 +9,8 @@ use mode::Mode;
 use words::refusal;
 ghost use mathlib.Core.Path.{_≡_};
 ghost use Prim.Native.Nat.{_/_, _≤_};
-ghost use Rattle.tileset.specs.Numbers.{rowCells, firstCell, tileOf, gridSays, nativeSays, logicalSays};
-ghost use Rattle.tileset.specs.Inner.{nativeAnswer, logicalAnswer, Grid};
+ghost use Rattle.tileset.specs.Numbers.{rowCells, firstCell, tileOf, gridSays, nativeSays, logicalSays, Grid};
+ghost use Rattle.tileset.specs.Inner.{nativeAnswer, logicalAnswer};
 
 // Whether a mode numbers the cells of such tiles.
 fn grid_says(mode: u32, width: u32, height: u32) -> u32

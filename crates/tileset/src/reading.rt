@@ -14,8 +14,9 @@ ghost use Rattle.words.specs.Answers.{overwrite};
 ghost use Rattle.words.specs.Loops.{each};
 ghost use Rattle.mode.specs.Table.{pce-sprite};
 ghost use Rattle.tileset.specs.Sets.{setSays};
+ghost use Rattle.tileset.specs.Numbers.{Grid};
 ghost use Rattle.tileset.specs.Reading.{wholeTiles, readCount, readableSays, readSays, readPixels, Reads};
-ghost use Rattle.tileset.specs.Inner.{Grid, ReadsAll, ReadsCells, ReadsRows, ReadsRow, cellsIn, rowOf};
+ghost use Rattle.tileset.specs.Inner.{ReadsAll, ReadsCells, ReadsRows, ReadsRow, cellsIn, rowOf};
 
 // Whether a mode's sets of such tiles can be read.
 fn readable_says(mode: u32, depth: u32, width: u32, height: u32) -> u32

@@ -16,9 +16,9 @@ ghost use Rattle.words.specs.Answers.{overwrite, Wrote};
 ghost use Rattle.words.specs.Loops.{each};
 ghost use Rattle.mode.specs.Table.{pce-sprite};
 ghost use Rattle.tileset.specs.Sets.{setSays};
-ghost use Rattle.tileset.specs.Numbers.{rowCells};
+ghost use Rattle.tileset.specs.Numbers.{rowCells, Grid};
 ghost use Rattle.tileset.specs.Writing.{paddedCells, cellCount, cornerOf, block, cellBytes, cellsOf, spriteBytes, setBytes, writeSize, writeSays};
-ghost use Rattle.tileset.specs.Inner.{Grid, Writes, PutsCell, HasCorner, HasBlock};
+ghost use Rattle.tileset.specs.Inner.{Writes, PutsCell, HasCorner, HasBlock};
 
 // Whole rows of cells for so many tiles.
 fn padded_cells(mode: u32, width: u32, height: u32, stored: u32) -> u32

@@ -303,6 +303,26 @@ pub fn ticked(text: &str) -> Vec<String> {
     text.split('`').skip(1).step_by(2).map(str::to_string).collect()
 }
 
+/// The laws that a cell names, each with the crates that the cell says it stands in; none where it does not say.
+///
+/// `` `a`, `b` (tile, Laws; color, Laws), `c` `` names a and b of tile or color, and c of any crate.
+pub fn laws(cell: &str) -> Vec<(String, Vec<String>)> {
+    let mut found: Vec<(String, Vec<String>)> = Vec::new();
+    let mut said = 0;
+    for (i, part) in cell.split('`').enumerate() {
+        if i % 2 == 1 {
+            found.push((part.to_string(), Vec::new()));
+        } else if let Some((_, place)) = part.split_once('(') {
+            let place = place.split(')').next().expect("a split has a part");
+            let floors: Vec<String> =
+                place.split("; ").filter_map(|p| p.split(", ").next()).map(str::to_string).collect();
+            found[said..].iter_mut().for_each(|law| law.1.clone_from(&floors));
+            said = found.len();
+        }
+    }
+    found
+}
+
 /// The rows of the tables below a heading of a Markdown text, up to the next heading of its kind; without the two head rows.
 pub fn rows(text: &str, heading: &str) -> Vec<Vec<String>> {
     let level = heading.split(' ').next().expect("a heading").to_string() + " ";

@@ -3,7 +3,7 @@
 
 use std::collections::{BTreeMap, BTreeSet};
 
-use papers::{Place, exports, modules, reached, read, rows, scope, ticked};
+use papers::{Place, exports, laws, modules, reached, read, rows, scope, ticked};
 
 const PROMISES: &str = "docs/PROMISES.md";
 const THEOREMS: &str = "crates/promises/proofs/OneResult.antt";
@@ -44,15 +44,18 @@ fn every_export_has_its_theorems() {
 fn every_law_that_is_named_is_there() {
     let modules = modules();
     let text = read(PROMISES);
-    let is_there = |law: &str| {
-        let of = |part: &str, m: &papers::Module| {
-            part == "proofs" && m.declarations.iter().any(|d| d.place.name == law && d.public)
-        };
-        modules.iter().any(|((_, part, _), module)| of(part, module))
+    let is_there = |law: &str, floors: &[String]| {
+        modules.iter().any(|((floor, part, _), module)| {
+            let said = floors.is_empty() || floors.contains(floor);
+            said && part == "proofs" && module.declarations.iter().any(|d| d.place.name == law && d.public)
+        })
     };
     let named = rows(&text, "## Calls").into_iter().chain(LAWS.iter().flat_map(|heading| rows(&text, heading)));
-    let missing: Vec<String> =
-        named.flat_map(|row| ticked(row.last().expect("a cell"))).filter(|law| !is_there(law)).collect();
+    let missing: Vec<String> = named
+        .flat_map(|row| laws(row.last().expect("a cell")))
+        .filter(|(law, floors)| !is_there(law, floors))
+        .map(|(law, floors)| format!("{law} {floors:?}"))
+        .collect();
     assert!(missing.is_empty(), "{PROMISES} names laws that are not there: {missing:?}");
 }
 
@@ -65,10 +68,13 @@ fn trusted() -> BTreeSet<Place> {
         reached(&export.promise, &known, &modules, &mut found);
     }
     let text = read(PROMISES);
-    let laws: BTreeSet<String> =
-        LAWS.iter().flat_map(|h| rows(&text, h)).flat_map(|row| ticked(row.last().expect("a cell"))).collect();
-    for ((_, part, _), module) in &modules {
-        for law in module.declarations.iter().filter(|d| part == "proofs" && d.public && laws.contains(&d.place.name)) {
+    let named: Vec<(String, Vec<String>)> =
+        LAWS.iter().flat_map(|h| rows(&text, h)).flat_map(|row| laws(row.last().expect("a cell"))).collect();
+    for ((floor, part, _), module) in &modules {
+        let is_named = |name: &String| {
+            named.iter().any(|(law, floors)| law == name && (floors.is_empty() || floors.contains(floor)))
+        };
+        for law in module.declarations.iter().filter(|d| part == "proofs" && d.public && is_named(&d.place.name)) {
             reached(&law.text, &scope(module), &modules, &mut found);
         }
     }
@@ -103,9 +109,15 @@ fn what_is_inner_is_told_apart() {
         .filter(|((_, part, module), _)| part == "specs" && !is_inner(module))
         .flat_map(|(_, module)| &module.declarations)
         .filter(|declaration| declaration.definition && !trusted.contains(&declaration.place))
-        .map(|declaration| format!("{} {} {}", declaration.place.floor, declaration.place.module, declaration.place.name))
+        .map(|declaration| {
+            format!("{} {} {}", declaration.place.floor, declaration.place.module, declaration.place.name)
+        })
         .collect();
-    assert!(stray.is_empty(), "no promise and no law reaches these, so that they are inner shapes:\n{}", stray.join("\n"));
+    assert!(
+        stray.is_empty(),
+        "no promise and no law reaches these, so that they are inner shapes:\n{}",
+        stray.join("\n")
+    );
     let inner: Vec<&Place> = trusted.iter().filter(|place| place.part == "specs" && is_inner(&place.module)).collect();
     assert!(inner.is_empty(), "a promise or a law reaches these, so that they are no inner shapes: {inner:?}");
 }

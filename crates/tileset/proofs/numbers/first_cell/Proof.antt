@@ -3,8 +3,7 @@ use mathlib.Core.Path.{sym}
 use Prim.Native.Nat.{_/_}
 use native.Mathlib.Omega.{arith}
 use borrow.Author.Needs.{needs}
-use Rattle.tileset.specs.Numbers.{startsAt}
-use Rattle.tileset.specs.Inner.{Grid}
+use Rattle.tileset.specs.Numbers.{startsAt, Grid}
 use Rattle.tileset.proofs.NumberLaws.{grid-at, start-down, start-row, start-across}
 use Rattle.tileset.proofs.numbers.first_cell.Statement.{statement}
 use Rattle.tileset.proofs.numbers.first_cell.Tie as tie

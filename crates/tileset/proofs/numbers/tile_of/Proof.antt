@@ -3,8 +3,7 @@ use mathlib.Core.Path.{sym}
 use Prim.Native.Nat.{_/_}
 use native.Mathlib.Omega.{arith}
 use borrow.Author.Needs.{needs}
-use Rattle.tileset.specs.Numbers.{belongsTo}
-use Rattle.tileset.specs.Inner.{Grid}
+use Rattle.tileset.specs.Numbers.{belongsTo, Grid}
 use Rattle.tileset.proofs.NumberLaws.{grid-at, row-some, belongs-fits}
 use Rattle.tileset.proofs.numbers.tile_of.Statement.{statement}
 use Rattle.tileset.proofs.numbers.tile_of.Tie as tie

@@ -12,9 +12,8 @@ use Rattle.words.specs.Answers.{overwrite}
 use Rattle.words.specs.Loops.{each}
 use Rattle.words.proofs.Filling.{Filled, filled-none, filled-front}
 use Rattle.tile.proofs.Native.{Native}
-use Rattle.tileset.specs.Numbers.{rowCells, firstCell}
+use Rattle.tileset.specs.Numbers.{rowCells, firstCell, Grid}
 use Rattle.tileset.specs.Reading.{cellIn}
-use Rattle.tileset.specs.Inner.{Grid}
 use Rattle.tileset.proofs.Sizes.{IsSet, set-of, grid-set}
 use Rattle.tileset.proofs.WritingLaws.{native-cell, front-more}
 use Rattle.tileset.proofs.ReadingLaws.{cell-in-length, unpacks-at, unpacks-cell, cell-inside, cell-row-fits, cells-area, starts-few}

@@ -4,12 +4,12 @@ use native.Mathlib.Nat.{mod-lt, mul-le-mul}
 use native.Mathlib.Omega.{arith}
 use borrow.Author.Needs.{needs}
 use Rattle.tileset.specs.Writing.{cornerOf}
-use Rattle.tileset.specs.Inner.{Grid}
 use Rattle.tileset.specs.declared.Set.{Set}
 use Rattle.tileset.proofs.NumberLaws.{grid-at, row-some}
 use Rattle.tileset.proofs.WritingLaws.{block-inside}
 use Rattle.tileset.proofs.writing.corner.Statement.{statement}
 use Rattle.tileset.proofs.writing.corner.Tie as tie
+use Rattle.tileset.specs.Numbers.{Grid}
 
 module _ (c : tie.After-row-cells) where
   abbrev z : Set

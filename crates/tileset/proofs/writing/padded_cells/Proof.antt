@@ -3,11 +3,11 @@ use Prim.Native.Nat.{_/_}
 use native.Mathlib.Omega.{arith}
 use borrow.Author.Needs.{needs}
 use Rattle.tileset.specs.Writing.{paddedCells}
-use Rattle.tileset.specs.Inner.{Grid}
 use Rattle.tileset.proofs.NumberLaws.{grid-at}
 use Rattle.tileset.proofs.WritingLaws.{tiles-few, padded-down, padded-fits}
 use Rattle.tileset.proofs.writing.padded_cells.Statement.{statement}
 use Rattle.tileset.proofs.writing.padded_cells.Tie as tie
+use Rattle.tileset.specs.Numbers.{Grid}
 
 grid : (c : tie.After-row-cells) → Grid (c .row-cells .result) (c .before .args .width / 8) (c .before .args .height / 8)
 grid c = grid-at (c .before .pre .0) (c .row-cells .ensures)
