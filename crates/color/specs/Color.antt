@@ -47,7 +47,7 @@ byte fields = record { gray = false; four = false; size = 1; most = false; field
 abbrev grayByte : List Field → Coloring
 grayByte fields = record { gray = true; four = false; size = 1; most = false; fields = fields }
 
--- "Gb exactly four colours, two bits each from the bottom"; "ws exactly four, four bits each, two bytes".
+-- "Gb exactly four colours, two bits each from the bottom"; "ws exactly four, four bits each, 7 - r, two bytes".
 abbrev fourGrays : ℕ → List Field → Coloring
 fourGrays size fields = record { gray = true; four = true; size = size; most = false; fields = fields }
 

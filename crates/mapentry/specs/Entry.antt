@@ -80,7 +80,7 @@ entryBytes m e = bytesOf (row m .entry) (mostFirst m) (entryWord m e)
 abbrev pub entryOf : ℕ → List ℕ → Mapentry
 entryOf m bytes = entryIn m (wordOf (mostFirst m) bytes)
 
--- The first field that its bits cannot hold, "or a flip or priority where there is none".
+-- The first field that its bits cannot hold, or "a flip or priority where there is none".
 abbrev pub misfitOf : ℕ → Mapentry → Misfit
 misfitOf m e =
     cond (not (ltb (e .tile) (2 ^ row m .tile))) Tile
@@ -146,7 +146,7 @@ indexChecks m e space = entryChecks m e ++ 11 when ltb space (indexSize m) ∷ [
 unfoldable pub indexSays : ℕ → Mapentry → ℕ → ℕ
 indexSays m e space = firstApplying (indexChecks m e space)
 
--- "`get_attribute` keeps the non-tile bits of the second byte (md: the first; gbc: tile bit 8 too), 0 where an entry has one byte": what is left
+-- "`get_attribute` keeps the non-tile bits of the second byte (md: the first; gbc: tile bit 8 too .. 0 where an entry has one byte": what is left
 -- above the low byte of the word, of an entry without its tile index.
 abbrev pub withoutTile : ℕ → Mapentry → Mapentry
 withoutTile m e =

@@ -1,4 +1,4 @@
--- "Columns x rows of tiles, row-major pixels. Tiles are taken left to right, top to bottom." Tiles are w wide and h high.
+-- "Columns x rows of tiles, row-major pixels .. Tiles are taken left to right, top to bottom." Tiles are w wide and h high.
 -- Assumes nothing.
 use mathlib.Core.List.{List, [], _∷_, _++_}
 use Prim.Native.Nat.{ℕ, zero, suc, _+_, _*_, _/_, _%_}

@@ -4,7 +4,7 @@ use Prim.Native.Nat.{ℕ}
 use mathlib.Core.List.{List, [], _∷_, _++_}
 use lib.ListN.{getD}
 
--- Each with its `=`: those of the eight lines that the program reads, "in this order: mode, depth, flip, discard, limit, palette, columns, rows", then
+-- Each with its `=`: those of the eight lines that the program reads, "in this order .. mode, depth, flip, discard, limit, palette, columns, rows", then
 -- tiles, discarded, tilebytes, mapbytes, refused.
 abbrev pub keys : List (List ℕ)
 keys =

@@ -14,7 +14,7 @@ planar g d w h =
       bytes = record { count = w * h * d / 8; bits = 8; from = λ k j. k / g % h * w + (7 - j); place = λ k j. k / (g * h) * g + k % g };
     }
 
--- "Two bytes a row. With px = 7 - x, pixel x stands in byte px/4, its low bit at place twice (px mod 4)."
+-- "Two bytes a row. With px = 7 - x, pixel x stands in byte px/4 .. its low bit at place twice (px mod 4)."
 abbrev pub ngp : ℕ → ℕ → Layout
 ngp w h =
     record {
@@ -66,7 +66,7 @@ sprite w h =
       bytes = record { count = w * h * 4 / 8; bits = 8; from = λ k j. spriteRow h k * w + spriteColumn h k + j; place = λ k j. k % 128 / 32 };
     }
 
--- The layout that a packing names: "8x8 in every mode but pce_sprite".
+-- The layout that a packing names: "8x8 .. in every mode but pce_sprite".
 abbrev pub layoutIn : Packing → Layout
 layoutIn (Planar g d) = planar g d 8 8
 layoutIn Ngp = ngp 8 8

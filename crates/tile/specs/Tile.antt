@@ -61,7 +61,7 @@ packed m d w h pixels = spread (layoutOf m d w h .bytes) pixels
 abbrev pub unpacked : ℕ → ℕ → ℕ → ℕ → List ℕ → List ℕ
 unpacked m d w h bytes = spread (layoutOf m d w h .pixels) bytes
 
--- "A native tile (no other is packed) is 8x8 in every mode but pce_sprite." "Pce_sprite: widths 16, 32, heights 16, 32, 64."
+-- "A native tile (no other is packed) is 8x8 .. in every mode but pce_sprite." "Pce_sprite: widths 16, 32, heights 16, 32, 64."
 abbrev pub widths : ℕ → List ℕ
 widths m = cond (eqb m pce-sprite) (16 ∷ 32 ∷ []) (8 ∷ [])
 

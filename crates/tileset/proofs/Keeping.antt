@@ -178,7 +178,7 @@ module _ (on : Bool) (w h : ℕ) where
   unfolding kept
   kept-apart ts = all-apart [] ts (apart-none on w h)
 
--- "matches no earlier tile of the picture" is "is not found among those stored"
+-- A tile that matches no earlier one is one that is not found among those stored
 pub kept-need : (on : Bool) (w h : ℕ) (z : 0 < w) (discard : Bool) (ts : List (List ℕ)) → length (kept discard on w h ts) ≡ need discard on w h ts
 unfolding kept need discarded
 kept-need on w h z discard ts = omega (arith, kept-count on w h discard [] ts (λ lt. z), need-discarded on w h discard ts)
