@@ -105,5 +105,5 @@ holds [] = true
 holds (e ∷ es) = (eqb (e .says) (e .refusal) && same (e .bytes) (e .expected)) && holds es
 
 pub examples-hold : T (holds examples)
-unfolding holds examples tiles stripes oneTwo spread table fromBits tile.packingOf tile.packSays colors packs refuses gray row color.coloring color.packed color.packSays entry.layout entry.entrySays entry.packSays answers nine blanks setRoom roomUnder setSays heldSays startsAt belongsTo gridSays nativeSays logicalSays paddedCells cellCount cornerOf cellPixels setBytes writeSize writeSays wholeTiles readableSays readSays
+unfolding holds examples tiles stripes oneTwo spread table fromBits tile.packingOf tile.packSays colors packs refuses gray row color.coloring color.packed color.packSays entry.layout entry.entrySays entry.packSays answers nine blanks setRoom roomUnder setSays heldSays startsAt belongsTo gridSays nativeSays paddedCells cellCount cornerOf cellPixels setBytes writeSize writeSays wholeTiles readableSays readSays
 examples-hold = tt
