@@ -173,6 +173,18 @@ fn head_of(found: Found, head: u16, n: usize) -> u16
     head
 }
 
+// The tile, from place at of the store on: a loop of 64, which compiles to four moves.
+fn put_tile(store: &mut [u8], at: usize, tile: &[u8])
+    requires { ⌜ (at + 64 ≤ length (now store)) × (length (now tile) ≡ 64) ⌝ }
+    ensures { λ _. ⌜ now (store .exit) ≡ sets (now (store .entry)) at (now (tile .entry)) ⌝ }
+{
+    let mut i = 0;
+    while i < 64 {
+        store[at + i] = tile[i];
+        i += 1;
+    }
+}
+
 // Key, link and head for tile n, whose key is q.
 fn chain(keys: &mut [u32], heads: &mut [u16], next: &mut [u16], n: usize, q: u32, found: Found)
     requires { ⌜ (n < 4096) × (n < length (now keys)) × (n < length (now next)) × (4096 ≤ length (now heads)) ⌝ }
@@ -202,6 +214,6 @@ pub fn enter(
     requires { ⌜ Enters flips (now store) (now keys) (now heads) (now next) count (now tile) q found ⌝ }
     ensures { λ _. ⌜ Entered flips (tilesIn 64 (now (store .entry)) count ++ now (tile .entry) ∷ []) (now (store .exit)) (now (keys .exit)) (now (heads .exit)) (now (next .exit)) (count + 1) ⌝ }
 {
-    words::put(store, count * 64, tile);
+    put_tile(store, count * 64, tile);
     chain(keys, heads, next, count, q, found);
 }

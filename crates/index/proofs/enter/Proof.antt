@@ -5,11 +5,11 @@ use borrow.Author.Needs.{needs}
 use Rattle.index.proofs.enter.Statement.{statement}
 use Rattle.index.proofs.enter.Tie as tie
 
-mul-put : tie.Need-mul-put
-mul-put c = search needs
+mul-put-tile : tie.Need-mul-put-tile
+mul-put-tile c = search needs
 
-put-requires : tie.Need-put-requires
-put-requires c κs = search needs
+put-tile-requires : tie.Need-put-tile-requires
+put-tile-requires c κs = search needs
 
 chain-requires : tie.Need-chain-requires
 chain-requires c κs = search needs
@@ -20,9 +20,9 @@ returns c =
     let put = c .before .before .before .before in
     let tile = put .before in
     let store = tile .before in
-    entered _ _ _ _ _ _ _ _ _ (store .before .pre) (omega (arith, tile .put-arg2 .given)) (omega (arith, store .put-arg .given))
+    entered _ _ _ _ _ _ _ _ _ (store .before .pre) (omega (arith, tile .put-tile-arg2 .given)) (omega (arith, store .put-tile-arg .given))
     (omega (arith, c .before .before .before .chain-arg .given)) (omega (arith, c .before .before .chain-arg2 .given)) (omega (arith, c .before .chain-arg3 .given))
-    (put .put .ensures) (e .0) (e .1 .0) (e .1 .1)
+    (put .put-tile .ensures) (e .0) (e .1 .0) (e .1 .1)
 
 pub enter-spec : {M : Type 1} → statement M
-enter-spec = tie.close (tie.spec mul-put put-requires chain-requires returns)
+enter-spec = tie.close (tie.spec mul-put-tile put-tile-requires chain-requires returns)
