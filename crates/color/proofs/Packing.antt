@@ -19,7 +19,7 @@ use Rattle.words.proofs.Bytes.{length-bytes}
 use Rattle.words.proofs.Fields.{Held}
 use Rattle.words.proofs.Loops.{all-at, length-each}
 use Rattle.mode.specs.Table.{row}
-use Rattle.color.specs.Color.{Coloring, coloring, above, packable, packedSize, packSays, valuesOf, fourValues, bytesWith, packed}
+use Rattle.color.specs.Color.{coloring, above, packable, packedSize, packSays, valuesOf, fourValues, bytesWith, packed}
 use Rattle.color.specs.Inner.{placesOf, placedPackSays, colorWord, fourWord, colorBytes, AllWithin}
 use Rattle.color.specs.declared.ColorPlaces.{ColorPlaces}
 use Rattle.words.proofs.Items.{neither-left, neither-right, none-at, each-eq}

@@ -2,8 +2,8 @@
 -- Assumes nothing.
 use mathlib.Core.Path.{_≡_, refl, sym, ap, _∙_, subst}
 use mathlib.Core.Bool.{Bool, true, false, not, cond, _&&_, _||_}
-use mathlib.Core.List.{[], _∷_, _++_}
-use Prim.Native.Nat.{ℕ, _+_, _^_, _<_, _≤_}
+use mathlib.Core.List.{[], _∷_}
+use Prim.Native.Nat.{ℕ, _+_, _^_, _<_}
 use native.Mathlib.Nat.{div-one}
 use native.Mathlib.Omega.{arith}
 use lib.Dec.{T, eqb, leb, ltb, leb→le, ltb→lt, eqb→eq, lit<}
@@ -15,7 +15,7 @@ use Rattle.words.proofs.Loops.{all-at, both-left, both-right}
 use Rattle.words.proofs.Starts.{once, once-found}
 use Rattle.mode.specs.Table.{row}
 use Rattle.mode.proofs.ByMode.{every-mode}
-use Rattle.color.specs.Color.{Coloring, coloring, shade, colorWith, fourWith, opaque}
+use Rattle.color.specs.Color.{Coloring, coloring, colorWith, fourWith}
 use Rattle.color.specs.Inner.{placesOf, Sound, wordWith, valueAt, colorFrom, fourFrom}
 use Rattle.color.specs.Channel.{bitsUpTo}
 use Rattle.color.specs.declared.ColorPlaces.{ColorPlaces}

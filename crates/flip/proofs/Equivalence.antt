@@ -8,7 +8,7 @@ use native.Mathlib.Omega.{arith}
 use lib.ListN.{length}
 use Rattle.words.specs.Bytes.{same}
 use Rattle.flip.specs.Flips.{flip, flipped, after}
-use Rattle.flip.specs.Matching.{allowed, firstFlip, matchFlip, isUnder, matches}
+use Rattle.flip.specs.Matching.{firstFlip, matchFlip, isUnder, matches}
 use Rattle.flip.specs.declared.Flip.{Flip}
 use Rattle.flip.specs.declared.Match.{Match}
 use Rattle.flip.specs.declared.Match.the-variants.{Under, Never}

@@ -12,7 +12,7 @@ use Rattle.words.specs.Bytes.{same}
 use Rattle.words.specs.Inner.{all}
 use Rattle.words.proofs.Bytes.{same-eq, read-off}
 use Rattle.words.proofs.Loops.{all-at}
-use Rattle.mode.specs.Table.{rows, row, modeOf, oneOf, hasDepth}
+use Rattle.mode.specs.Table.{row, modeOf, oneOf, hasDepth}
 use Rattle.mode.specs.Inner.{depthAt, three, numbers}
 use Rattle.mode.specs.Names.{names, nameOf, namedFrom}
 use Rattle.mode.specs.declared.Named.the-variants.{Console}

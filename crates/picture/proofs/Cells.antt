@@ -1,38 +1,21 @@
 -- Numbers of tiles, and pixels of a picture and of its tiles: each stands in one tile, at one place.
 -- Assumes nothing.
-use mathlib.Core.Path.{_≡_, refl, sym, ap, _∙_}
+use mathlib.Core.Path.{_≡_, refl, ap, _∙_}
 use mathlib.Core.Bool.{Bool, true, false, cond}
 use mathlib.Core.List.{List, [], _∷_}
 use Prim.Native.Nat.{ℕ, _+_, _*_, _/_, _%_, _^_, _<_}
-use native.Mathlib.Nat.{zero-add, mod-lt, mul-one, mul-pos, mul-comm, mul-mul-mul-comm, div-one, div-add-mod', div-lt-iff-lt-mul}
+use native.Mathlib.Nat.{mod-lt, mul-pos, mul-comm, mul-mul-mul-comm, div-add-mod', div-lt-iff-lt-mul}
 use native.Mathlib.Omega.{arith}
 use lib.Dec.{eqb}
-use lib.ListN.{length, getD}
-use lib.Seq.{sets}
+use lib.ListN.{getD}
 use Rattle.words.specs.Loops.{each}
-use Rattle.words.proofs.Filling.{Filled, filled-more}
-use Rattle.words.proofs.Items.{item-getD}
-use Rattle.words.proofs.Loops.{length-each}
+use Rattle.words.proofs.Items.{number-at}
 use Rattle.flip.proofs.Group.{place-lt, place-row, place-column, row-lt}
 use Rattle.mode.specs.Table.{snes}
-use Rattle.tileset.specs.Numbers.{rowCells, startsAt, belongsTo, firstCell, tileOf, Grid}
+use Rattle.tileset.specs.Numbers.{rowCells, firstCell, tileOf, Grid}
 use Rattle.tileset.proofs.NumberLaws.{first-8, tile-8 as cell-8}
 use Rattle.tileset.proofs.Stores.{cut-at}
 use Rattle.picture.specs.Cells.{pixelAt, tileOver, placeOver, cutTile}
-
--- n numbers, and each by its place
-pub length-ones : (n : ℕ) (f : ℕ → ℕ) → length (each n (λ k. f k ∷ [])) ≡ n
-length-ones n f = length-each n 1 (λ k. f k ∷ []) (λ k. refl) ∙ mul-one n
-
-pub number-at : (n : ℕ) (f : ℕ → ℕ) (i : ℕ) → i < n → getD (each n (λ k. f k ∷ [])) i 0 ≡ f i
-number-at n f i lt =
-    let e : i * 1 + 0 ≡ i = omega arith in
-    ap (λ (k : ℕ). getD (each n (λ k. f k ∷ [])) k 0) (sym e) ∙ item-getD 1 (λ k. f k ∷ []) (λ k. refl) n i lt 0 (omega arith)
-
--- one item of k numbers more, from the start on
-pub filled-next : (k : ℕ) {f : ℕ → List ℕ} {out now then : List ℕ} {i : ℕ} → ((j : ℕ) → length (f j) ≡ k) → Filled f out 0 i now → then ≡ sets now (i * k) (f i)
-    → Filled f out 0 (i + 1) then
-filled-next k {f} {now = now} {i = i} size h e = filled-more k size h (e ∙ ap (λ (n : ℕ). sets now n (f i)) (sym (zero-add (i * k))))
 
 -- ---- "At 8x8 they agree": the native number of a tile, and back
 

@@ -12,7 +12,7 @@ use lib.Pow.{pow-mono}
 use borrow.Author.Tests.{lt-ltb, le-ltb, ltb-false, eq-eqb, ne-eqb, eqb-true, eqb-false, not-false}
 use Rattle.words.specs.Answers.{_when_, firstApplying}
 use Rattle.words.proofs.Answers.{all-passed, not-given, first-given, last-given}
-use Rattle.words.proofs.Order.{first-append}
+use Rattle.words.proofs.Order.{first-append, next-given}
 use Rattle.words.proofs.Loops.{both-left, both-right}
 use Rattle.mode.specs.Table.{row, oneOf, hasDepth, pce-sprite}
 use Rattle.mapentry.specs.Entry.{misfitOf, misfitSays}
@@ -22,7 +22,7 @@ use Rattle.mapentry.proofs.Laws.{small, fitting}
 use Rattle.tile.specs.Tile.{tileSays}
 use Rattle.tile.proofs.Native.{Native}
 use Rattle.tileset.specs.Sets.{sides, setSays}
-use Rattle.tileset.proofs.Says.{next-given, room-within}
+use Rattle.tileset.proofs.Says.{room-within}
 use Rattle.tileset.proofs.Sizes.{IsSet, set-of, bits-some}
 use Rattle.tileset.proofs.WritingLaws.{native-cell}
 use Rattle.picture.specs.Entries.{entryAs}

@@ -1,14 +1,14 @@
 -- A picture is drawn a row of tiles at a time, in the order of its pixels.
 -- Assumes nothing.
 use mathlib.Core.Path.{_≡_, refl, sym, ap, _∙_, subst}
-use mathlib.Core.List.{List, [], _∷_, _++_, append-assoc, append-nil}
-use Prim.Native.Nat.{ℕ, zero, suc, _+_, _*_, _/_, _%_, _^_, _<_, _≤_}
-use native.Mathlib.Nat.{add-zero, add-suc, zero-mul, suc-mul, mod-eq-of-lt, mul-comm, mul-assoc, mul-le-mul-right}
+use mathlib.Core.List.{List, [], _∷_, _++_, append-nil}
+use Prim.Native.Nat.{ℕ, _+_, _*_, _/_, _%_, _^_, _<_, _≤_}
+use native.Mathlib.Nat.{mod-eq-of-lt, mul-comm, mul-assoc, mul-le-mul-right}
 use native.Mathlib.Omega.{arith}
 use lib.ListN.{length, getD, take, drop, drop-of-length-le, List·getD-append}
 use lib.Seq.{sets}
 use Rattle.words.specs.Loops.{each}
-use Rattle.words.proofs.Items.{each-eq, item-getD, item-inside}
+use Rattle.words.proofs.Items.{each-eq, item-getD, item-inside, each-each, length-ones}
 use Rattle.words.proofs.Loops.{length-each, sets-front}
 use Rattle.mode.specs.Table.{row}
 use Rattle.tile.specs.Inner.{Unpacks, byteCount, unpackedIn}
@@ -24,23 +24,6 @@ use Rattle.picture.specs.Entries.{tileNamed}
 use Rattle.picture.specs.Cells.{tileOver, placeOver}
 use Rattle.picture.specs.Redrawing.{entryAt, drawnTile, drawn}
 use Rattle.picture.specs.Inner.{stripOf, pixelLine, DrawsStrip, Draws}
-use Rattle.picture.proofs.Cells.{length-ones}
-
--- ---- items of items
-
-each-add : (n k : ℕ) (f : ℕ → List ℕ) → each (n + k) f ≡ each n f ++ each k (λ j. f (n + j))
-each-add n zero f = ap (λ (i : ℕ). each i f) (add-zero n) ∙ sym (append-nil (each n f))
-each-add n (suc k) f =
-    ap (λ (i : ℕ). each i f) (add-suc n k)
-    ∙ ap (λ (l : List ℕ). l ++ f (n + k)) (each-add n k f)
-    ∙ append-assoc (each n f) (each k (λ j. f (n + j))) (f (n + k))
-
-each-each : (n k : ℕ) (f : ℕ → List ℕ) → each n (λ i. each k (λ j. f (i * k + j))) ≡ each (n * k) f
-each-each zero k f = ap (λ (i : ℕ). each i f) (sym (zero-mul k))
-each-each (suc n) k f =
-    ap (λ (l : List ℕ). l ++ each k (λ j. f (n * k + j))) (each-each n k f)
-    ∙ sym (each-add (n * k) k f)
-    ∙ ap (λ (i : ℕ). each i f) (sym (suc-mul n k))
 
 -- ---- one tile
 

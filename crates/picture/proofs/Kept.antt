@@ -11,12 +11,12 @@ use lib.ListN.{length, getD, drop, drop-of-length-le, length-append, List·getD-
 use lib.Pow.{pow-pos}
 use lib.Seq.{getD-append-seam, drop-append-le}
 use Rattle.words.specs.Loops.{each}
+use Rattle.words.proofs.Items.{length-ones}
 use Rattle.tileset.specs.Finding.{lookUp, isFound}
 use Rattle.tileset.specs.Keeping.{keep, keepAll, kept}
 use Rattle.tileset.proofs.Keeping.{found-more, keep-self, keep-grows, Every, kept-every}
 use Rattle.tileset.proofs.Stores.{length-cut, cut-at}
 use Rattle.picture.specs.Cells.{pixelAt, cutTile, cutTiles}
-use Rattle.picture.proofs.Cells.{length-ones}
 
 -- ---- the tiles of a picture
 

@@ -13,9 +13,8 @@ use Rattle.words.specs.Answers.{_when_, firstApplying}
 use Rattle.words.specs.Loops.{some}
 use Rattle.words.proofs.Answers.{all-passed, not-given, first-given}
 use Rattle.words.proofs.Items.{none-at}
-use Rattle.words.proofs.Order.{first-append}
+use Rattle.words.proofs.Order.{first-append, next-given}
 use Rattle.mode.specs.Table.{row}
-use Rattle.tileset.proofs.Says.{next-given}
 use Rattle.picture.specs.Entries.{tileNamed}
 use Rattle.picture.specs.Converting.{sizeChecks, sizeSays}
 use Rattle.picture.specs.Redrawing.{entryAt, namesMore, redrawSays}

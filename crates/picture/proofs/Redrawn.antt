@@ -10,7 +10,7 @@ use lib.ListN.{length, getD, take, drop, length-map}
 use lib.Seq.{ext-getD}
 use borrow.Author.Tests.{lt-leb}
 use Rattle.words.specs.Loops.{some}
-use Rattle.words.proofs.Items.{item-at}
+use Rattle.words.proofs.Items.{item-at, number-at}
 use Rattle.mode.specs.Table.{row}
 use Rattle.mapentry.specs.Entry.{entryBytes, entryOf}
 use Rattle.mapentry.specs.declared.Mapentry.{Mapentry}
@@ -34,7 +34,7 @@ use Rattle.picture.specs.Redrawing.{entryAt, drawnTile, drawn, namesMore
 use Rattle.picture.specs.Inner.{askedSays, IsPicture}
 use Rattle.picture.specs.declared.Settings.{Settings}
 use Rattle.picture.proofs.Checks.{IsSize, tile-8, native-tile, size-passed, asked-sized, asked-picture, asked-map, room-named, room-bytes, convert-passed}
-use Rattle.picture.proofs.Cells.{named-back, some-8, number-at, cutTile-at, pixelAt-back, placeOver-lt, tileOver-lt}
+use Rattle.picture.proofs.Cells.{named-back, some-8, cutTile-at, pixelAt-back, placeOver-lt, tileOver-lt}
 use Rattle.tileset.proofs.Search.{look-told}
 use Rattle.picture.proofs.Kept.{kept-sizes, kept-small}
 use Rattle.picture.proofs.Converted.{packed-size, entry-size, tile-is, is-found, stored-need, found-fits, tile-bytes-length, map-bytes-length}

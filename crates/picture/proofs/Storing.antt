@@ -8,11 +8,9 @@ use Prim.Native.Nat.{ℕ, suc, _+_, _<_, _≤_}
 use native.Mathlib.Nat.{eq-or-lt-of-le, ne-of-lt}
 use native.Mathlib.Numerals.{add-one}
 use native.Mathlib.Omega.{arith}
-use lib.Dec.{ltb}
 use lib.ListN.{length, getD, set, replicate, length-append, length-set, getD-replicate}
 use lib.Seq.{getD-set-same, getD-set-other}
 use borrow.Author.Tests.{lt-ltb, le-ltb}
-use Rattle.words.specs.Answers.{_when_}
 use Rattle.flip.specs.Flips.{flip}
 use Rattle.flip.specs.declared.Flip.{Flip}
 use Rattle.tileset.specs.Finding.{logical, tilesIn, lookUp, isFound}
@@ -25,7 +23,7 @@ use Rattle.index.specs.Inner.{Indexed, Entered}
 use Rattle.tileset.proofs.Stores.{tiles-long}
 use Rattle.index.proofs.Entering.{indexed-none}
 use Rattle.picture.specs.Cells.{cutTile}
-use Rattle.picture.specs.Inner.{codeOf, Keeps, takenSays, KeptWith, TakenAs, KeptAs, keptTo, foundThen, Gathers, GatheredWith, GatheredAs}
+use Rattle.picture.specs.Inner.{codeOf, Keeps, takenSays, TakenAs, KeptAs, keptTo, foundThen, Gathers, GatheredAs}
 use Rattle.picture.specs.declared.Settings.{Settings}
 use Rattle.picture.specs.declared.Taken.{Taken}
 use Rattle.picture.specs.declared.Taken.the-variants.{Kept, NoRoom}

@@ -8,13 +8,13 @@ use native.Mathlib.Omega.{arith}
 use lib.ListN.{length, getD}
 use lib.Seq.{ext-getD}
 use Rattle.words.specs.Loops.{each}
-use Rattle.words.proofs.Items.{item-getD}
+use Rattle.words.proofs.Items.{item-getD, length-ones, number-at}
 use Rattle.words.proofs.Loops.{length-each}
 use Rattle.picture.specs.Cells.{pixelAt, cutTile}
 use Rattle.picture.specs.Converting.{places}
 use Rattle.picture.specs.Inner.{IsPicture, HasTile}
 use Rattle.picture.specs.declared.Settings.{Settings}
-use Rattle.picture.proofs.Cells.{length-ones, number-at, cutTile-at, pixelAt-lt}
+use Rattle.picture.proofs.Cells.{cutTile-at, pixelAt-lt}
 use Rattle.picture.proofs.Kept.{length-cutTile}
 
 -- ---- the rows of a tile

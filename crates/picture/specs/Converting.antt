@@ -1,7 +1,7 @@
 -- Conversion: "Columns x rows of tiles, row-major pixels, 64 x columns x rows bytes."
 -- Assumes nothing.
 use mathlib.Core.Path.{_≡_}
-use mathlib.Core.Bool.{Bool, false, not, cond, _&&_}
+use mathlib.Core.Bool.{Bool, false, not, _&&_}
 use mathlib.Core.List.{List, [], _∷_, _++_}
 use Prim.Native.Nat.{ℕ, _*_, _/_, _^_}
 use lib.Dec.{leb, ltb, eqb}

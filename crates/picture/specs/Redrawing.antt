@@ -1,7 +1,7 @@
 -- "Redrawing takes mode, depth, columns, rows, tile bytes in whole tiles and exactly the map's bytes, and writes 64 x columns x rows pixels; each
 -- entry draws its tile under its flip."
 -- Assumes nothing.
-use mathlib.Core.Bool.{Bool, not, _||_}
+use mathlib.Core.Bool.{Bool, not}
 use mathlib.Core.List.{List, [], _∷_, _++_}
 use Prim.Native.Nat.{ℕ, _*_, _/_, _%_}
 use lib.Dec.{leb, ltb, eqb}

@@ -120,6 +120,14 @@ fn put_bytes(s: &[u8], out: &mut [u8]) -> usize
     n
 }
 
+// The first n bytes of s, or all of them where there are fewer.
+fn front<'a>(s: &'a [u8], n: usize) -> &'a [u8] {
+    if s.len() < n {
+        return s;
+    }
+    &s[..n]
+}
+
 // Whether a call wrote these bytes, and left what stands after them.
 fn wrote(r: Written, out: &[u8], expected: &[u8]) -> bool {
     if r.refusal != 0 {
@@ -159,10 +167,10 @@ fn tile_agrees(line: &[u8]) -> bool {
         number_field(line, 2),
         number_field(line, 3),
         number_field(line, 4),
-        &given[..n],
+        front(&given, n),
         &mut out,
     );
-    wrote(r, &out, &expected[..k])
+    wrote(r, &out, front(&expected, k))
 }
 
 fn pixels_agree(line: &[u8]) -> bool {
@@ -176,10 +184,10 @@ fn pixels_agree(line: &[u8]) -> bool {
         number_field(line, 2),
         number_field(line, 3),
         number_field(line, 4),
-        &given[..n],
+        front(&given, n),
         &mut out,
     );
-    wrote(r, &out, &expected[..k])
+    wrote(r, &out, front(&expected, k))
 }
 
 fn colors_agree(line: &[u8]) -> bool {
@@ -188,8 +196,8 @@ fn colors_agree(line: &[u8]) -> bool {
     let mut out = [NOISE; 512];
     let n = bytes_field(line, 2, &mut given);
     let k = bytes_field(line, 3, &mut expected);
-    let r = color::pack_colors(number_field(line, 1), &given[..n], &mut out);
-    wrote(r, &out, &expected[..k])
+    let r = color::pack_colors(number_field(line, 1), front(&given, n), &mut out);
+    wrote(r, &out, front(&expected, k))
 }
 
 fn palette_agrees(line: &[u8]) -> bool {
@@ -198,8 +206,8 @@ fn palette_agrees(line: &[u8]) -> bool {
     let mut out = [NOISE; 1024];
     let n = bytes_field(line, 2, &mut given);
     let k = bytes_field(line, 3, &mut expected);
-    let r = color::unpack_colors(number_field(line, 1), &given[..n], &mut out);
-    wrote(r, &out, &expected[..k])
+    let r = color::unpack_colors(number_field(line, 1), front(&given, n), &mut out);
+    wrote(r, &out, front(&expected, k))
 }
 
 fn reduce_agrees(line: &[u8]) -> bool {
@@ -223,7 +231,7 @@ fn entry_agrees(line: &[u8]) -> bool {
     let mut out = [NOISE; 8];
     let k = bytes_field(line, 7, &mut expected);
     let r = mapentry::pack_mapentry(number_field(line, 1), entry_fields(line, 2), &mut out);
-    wrote(r, &out, &expected[..k])
+    wrote(r, &out, front(&expected, k))
 }
 
 fn index_agrees(line: &[u8]) -> bool {
@@ -231,7 +239,7 @@ fn index_agrees(line: &[u8]) -> bool {
     let mut out = [NOISE; 8];
     let k = bytes_field(line, 7, &mut expected);
     let r = mapentry::get_tile_index(number_field(line, 1), entry_fields(line, 2), &mut out);
-    wrote(r, &out, &expected[..k])
+    wrote(r, &out, front(&expected, k))
 }
 
 fn attribute_agrees(line: &[u8]) -> bool {
@@ -242,7 +250,7 @@ fn attribute_agrees(line: &[u8]) -> bool {
 fn read_agrees(line: &[u8]) -> bool {
     let mut given = [0u8; 8];
     let n = bytes_field(line, 2, &mut given);
-    let r = mapentry::unpack_mapentry(number_field(line, 1), &given[..n]);
+    let r = mapentry::unpack_mapentry(number_field(line, 1), front(&given, n));
     let e = entry_fields(line, 3);
     if r.refusal != 0 {
         return false;
@@ -377,7 +385,12 @@ fn set_agrees(line: &[u8]) -> bool {
     let a = bytes_field(line, 7, &mut answers);
     let t = bytes_field(line, 8, &mut tiles);
     let k = bytes_field(line, 9, &mut expected);
-    run_agrees(line, &answers[..a], &tiles[..t], &expected[..k])
+    run_agrees(
+        line,
+        front(&answers, a),
+        front(&tiles, t),
+        front(&expected, k),
+    )
 }
 
 fn cells_agree(line: &[u8]) -> bool {
@@ -392,7 +405,7 @@ fn cells_agree(line: &[u8]) -> bool {
         number_field(line, 3),
         number_field(line, 4),
         true,
-        &given[..n],
+        front(&given, n),
         &mut store,
     );
     let set = r.set;
@@ -403,7 +416,7 @@ fn cells_agree(line: &[u8]) -> bool {
         refusal: r.refusal,
         written: k,
     };
-    wrote(w, &store, &expected[..k])
+    wrote(w, &store, front(&expected, k))
 }
 
 fn native_agrees(line: &[u8]) -> bool {

@@ -8,6 +8,7 @@ use lib.ListN.{length}
 use borrow.Author.Tests.{le-leb, lt-leb}
 use Rattle.words.specs.Answers.{_when_, firstApplying}
 use Rattle.words.proofs.Answers.{either-way, when-refused}
+use Rattle.words.proofs.Order.{checks-after, checks-first, checks-given}
 use Rattle.tileset.specs.Sets.{roomIn, lookChecks, lookSays}
 use Rattle.tileset.specs.Finding.{foundIn, isFound}
 use Rattle.tileset.specs.Adding.{discards, noRoom, counterFull, endChecks, oneStored, oneDiscarded, atEnd, addedBy, storeBy}
@@ -17,7 +18,7 @@ use Rattle.tileset.specs.declared.Set.{Set}
 use Rattle.tileset.specs.declared.SetAnswer.{SetAnswer}
 use Rattle.tileset.specs.declared.Found.{Found}
 use Rattle.tileset.specs.declared.Found.the-variants.{Nothing}
-use Rattle.tileset.proofs.Says.{checks-given, checks-after, checks-first, refused-set}
+use Rattle.tileset.proofs.Says.{refused-set}
 
 -- one of the two last checks counts
 one-end : (d a b : Bool) → firstApplying (12 when (not d && a) ∷ 13 when (d && b) ∷ []) ≡ cond d (13 when b) (12 when a)

@@ -1,22 +1,15 @@
 -- "Where several apply, the lowest number is given": for new and reset sets, and for look-ups.
 -- Assumes nothing.
 use mathlib.Core.Path.{_≡_}
-use mathlib.Core.Bool.{Bool, not}
-use mathlib.Core.List.{List, [], _∷_, _++_}
+use mathlib.Core.Bool.{not}
+use mathlib.Core.List.{[], _∷_}
 use Prim.Native.Nat.{ℕ}
 use lib.Dec.{ltb, eqb}
 use Rattle.words.specs.Answers.{_when_, lowest}
-use Rattle.words.proofs.Order.{Gives, gives-when, first-lowest}
+use Rattle.words.proofs.Order.{Gives, gives-when, first-lowest, gives-more}
 use Rattle.mode.specs.Table.{hasDepth}
 use Rattle.tileset.specs.Sets.{isSize, setChecks, setSays, area, roomIn, heldChecks, lookChecks, lookSays}
 use Rattle.tileset.specs.declared.Set.{Set}
-
--- one check more
-pub gives-more : (ks ns : List ℕ) (k : ℕ) (b : Bool) → Gives ks ns → Gives (ks ++ k ∷ []) (ns ++ k when b ∷ [])
-gives-more [] [] k b g = (gives-when k b, tt)
-gives-more [] (n ∷ ns) k b g = absurd g
-gives-more (j ∷ ks) [] k b g = absurd g
-gives-more (j ∷ ks) (n ∷ ns) k b g = (g .0, gives-more ks ns k b (g .1))
 
 module _ (m d w h : ℕ) where
   pub set-gives : Gives (1 ∷ 3 ∷ 4 ∷ []) (setChecks m d w h)

@@ -8,10 +8,10 @@ use native.Mathlib.Omega.{arith}
 use lib.Dec.{ltb}
 use borrow.Author.Tests.{lt-ltb, le-ltb}
 use Rattle.words.specs.Answers.{_when_}
+use Rattle.words.proofs.Order.{checks-after, checks-given}
 use Rattle.flip.proofs.Group.{place-lt, place-row, place-column}
 use Rattle.tileset.specs.Numbers.{startsAt, belongsTo, rowCells, firstCell, tileOf, gridChecks, gridSays, nativeSays, Grid}
 use Rattle.tileset.proofs.Sizes.{grid-of}
-use Rattle.tileset.proofs.Says.{checks-given, checks-after}
 
 pub grid-at : {k r h v : ℕ} → Grid r h v → k ≡ r → Grid k h v
 grid-at {h} {v} g e = subst (λ (n : ℕ). Grid n h v) (sym e) g

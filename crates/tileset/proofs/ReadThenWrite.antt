@@ -10,7 +10,7 @@ use lib.ListN.{length, getD, drop, length-append, length-drop, List·getD-append
 use Rattle.words.specs.Answers.{overwrite}
 use Rattle.words.specs.Loops.{each}
 use Rattle.words.proofs.Answers.{when-done}
-use Rattle.words.proofs.Items.{item-getD}
+use Rattle.words.proofs.Items.{item-getD, number-at}
 use Rattle.tile.proofs.Native.{Native}
 use Rattle.tile.proofs.Checks.{all-small}
 use Rattle.tileset.specs.Sets.{area, heldSays, noSet}
@@ -20,7 +20,7 @@ use Rattle.tileset.specs.Reading.{readCount, readSays, readSet, pixelIn,
 use Rattle.tileset.specs.declared.Set.{Set}
 use Rattle.tileset.specs.declared.SetAnswer.{SetAnswer}
 use Rattle.tileset.proofs.Sizes.{IsSet}
-use Rattle.tileset.proofs.WritingLaws.{each-getD, native-cell, write-0}
+use Rattle.tileset.proofs.WritingLaws.{native-cell, write-0}
 use Rattle.tileset.proofs.ReadingLaws.{readable-mode, read-readable, read-set-of, read-space, read-held, read-length, cell-in-small, row-in-length, tile-length}
 
 -- numbers below b in each item, each of k numbers
@@ -37,7 +37,7 @@ module _ {m d w h : ℕ} (s : IsSet m d w h) (n : Native m d 8 8) (bytes : List 
   pixel-small t y x = cell-in-small n bytes (firstCell m w h t + y / 8 * rowCells m + x / 8) (y % 8 * 8 + x % 8) (omega arith)
 
   row-small : (t y x : ℕ) → x < w → getD (rowIn m d w h bytes t y) x 0 < 2 ^ d
-  row-small t y x lt = rw (each-getD w (pixelIn m d w h bytes t y) x lt) (pixel-small t y x)
+  row-small t y x lt = rw (number-at w (pixelIn m d w h bytes t y) x lt) (pixel-small t y x)
 
   tile-small : (t i : ℕ) → i < w * h → getD (tileIn m d w h bytes t) i 0 < 2 ^ d
   tile-small t i lt =

@@ -15,6 +15,7 @@ use Rattle.words.specs.Loops.{each}
 use Rattle.words.proofs.Answers.{all-passed, not-given, when-done, when-refused}
 use Rattle.words.proofs.Items.{item-getD, item-inside, item-end, each-eq}
 use Rattle.words.proofs.Loops.{length-each}
+use Rattle.words.proofs.Order.{checks-after, checks-first, checks-given, checks-rest}
 use Rattle.mode.specs.Table.{hasDepth, pce-sprite}
 use Rattle.tile.specs.Inner.{Unpacks, byteCount, unpackedIn}
 use Rattle.tile.specs.Tile.{packingOf, layoutOf, unpacked}
@@ -29,7 +30,7 @@ use Rattle.tileset.specs.Inner.{cellsIn, placeIn, rowOf}
 use Rattle.tileset.specs.declared.Set.{Set}
 use Rattle.tileset.specs.declared.SetAnswer.{SetAnswer}
 use Rattle.tileset.proofs.Sizes.{IsSet, set-of, bits-some}
-use Rattle.tileset.proofs.Says.{checks-given, checks-after, checks-first, checks-rest, held-0, refused-set, done-set}
+use Rattle.tileset.proofs.Says.{held-0, refused-set, done-set}
 use Rattle.tileset.proofs.NumberLaws.{row-some, start-row, start-across}
 
 -- ---- how many tiles are whole

@@ -2,17 +2,17 @@
 -- Assumes nothing.
 use mathlib.Core.Path.{_≡_, refl, sym, ap, _∙_}
 use mathlib.Core.Bool.{Bool, true, false, not, cond}
-use mathlib.Core.List.{List, [], _∷_, _++_}
-use Prim.Native.Nat.{ℕ, zero, suc, _+_, _*_, _/_, _<_, _≤_, min}
-use native.Mathlib.Nat.{suc-ne-zero, le-trans, le-div-iff-mul-le, mul-pos, suc-mul, le-refl}
+use mathlib.Core.List.{List, [], _∷_}
+use Prim.Native.Nat.{ℕ, suc, _+_, _*_, _/_, _<_, _≤_, min}
+use native.Mathlib.Nat.{le-trans, le-div-iff-mul-le, mul-pos, suc-mul, le-refl}
 use native.Mathlib.Omega.{arith}
 use lib.Dec.{ltb, eqb}
-use lib.ListN.{length, getD}
+use lib.ListN.{length}
 use borrow.Author.Tests.{lt-ltb, le-ltb, ltb-false, eq-eqb, ne-eqb, eqb-true, not-false, eqb-false}
-use Rattle.words.specs.Answers.{_when_, firstApplying}
-use Rattle.words.proofs.Answers.{all-passed, not-given, first-given, when-done, when-refused}
-use Rattle.words.proofs.Order.{first-append}
-use Rattle.tileset.specs.Sets.{area, setRoom, roomIn, setChecks, setSays, heldSays, lookChecks, lookSays, answeredSet, heldChecks, roomUnder}
+use Rattle.words.specs.Answers.{_when_}
+use Rattle.words.proofs.Answers.{all-passed, not-given, when-done, when-refused}
+use Rattle.words.proofs.Order.{checks-after, checks-first, checks-given, checks-rest}
+use Rattle.tileset.specs.Sets.{area, setRoom, roomIn, setChecks, setSays, heldSays, lookSays, answeredSet, heldChecks, roomUnder}
 use Rattle.tileset.specs.Finding.{noPlace, placeOf, placed}
 use Rattle.tileset.specs.Inner.{nativeAnswer, logicalAnswer, Looks}
 use Rattle.tileset.specs.declared.Set.{Set}
@@ -21,25 +21,6 @@ use Rattle.tileset.specs.declared.Found.{Found}
 use Rattle.tileset.specs.declared.NativeAnswer.{NativeAnswer}
 use Rattle.tileset.specs.declared.LogicalAnswer.{LogicalAnswer}
 use Rattle.tileset.proofs.Sizes.{IsSet, set-of}
-
--- the first check passed
-pub next-given : {n : ℕ} (ns : List ℕ) → n ≡ 0 → firstApplying (n ∷ ns) ≡ firstApplying ns
-next-given {n = zero} ns e = refl
-next-given {n = suc n} ns e = absurd (suc-ne-zero n e)
-
--- checks after checks
-module _ (xs ys : List ℕ) where
-  pub checks-given : (n : ℕ) → n ≡ firstApplying xs → (n ≡ 0 → ⊥) → n ≡ firstApplying (xs ++ ys)
-  checks-given n e due = first-given n ys e due ∙ sym (first-append xs ys)
-
-  pub checks-after : firstApplying xs ≡ 0 → firstApplying (xs ++ ys) ≡ firstApplying ys
-  checks-after e = first-append xs ys ∙ next-given ys e
-
-  pub checks-first : firstApplying (xs ++ ys) ≡ 0 → firstApplying xs ≡ 0
-  checks-first e = all-passed (firstApplying xs ∷ ys) (sym (first-append xs ys) ∙ e) 0
-
-  pub checks-rest : firstApplying (xs ++ ys) ≡ 0 → firstApplying ys ≡ 0
-  checks-rest e = sym (checks-after (checks-first e)) ∙ e
 
 -- ---- answers
 

@@ -4,18 +4,18 @@ use mathlib.Core.Path.{_≡_, refl, sym, ap, _∙_, subst}
 use mathlib.Core.Bool.{Bool, true, false, and-false}
 use mathlib.Core.List.{List, [], _∷_}
 use Prim.Native.Nat.{ℕ, _+_, _-_, _*_, _/_, _%_, _<_, _≤_}
-use native.Mathlib.Nat.{mod-lt, div-le-self, mul-le-mul, mul-le-mul-right, add-mul, suc-mul, mul-comm, le-refl, le-trans, mul-one, zero-add, mul-pos, le-div-iff-mul-le}
+use native.Mathlib.Nat.{mod-lt, div-le-self, mul-le-mul, mul-le-mul-right, add-mul, suc-mul, mul-comm, le-refl, le-trans, mul-pos, le-div-iff-mul-le}
 use native.Mathlib.Omega.{arith}
 use lib.Dec.{T, ltb, eqb}
-use lib.ListN.{length, getD, set, drop, take, replicate}
-use lib.Seq.{sets, take-all}
+use lib.ListN.{length, getD, drop, take, replicate}
+use lib.Seq.{take-all}
 use borrow.Author.Tests.{eq-eqb, ne-eqb, eqb-true, eqb-false, lt-ltb, le-ltb, ltb-false}
 use Rattle.words.specs.Answers.{_when_, firstApplying}
 use Rattle.words.specs.Loops.{each, some}
 use Rattle.words.proofs.Answers.{all-passed, not-given}
-use Rattle.words.proofs.Filling.{Filled, filled-more}
-use Rattle.words.proofs.Items.{item-getD, item-inside}
+use Rattle.words.proofs.Items.{item-inside}
 use Rattle.words.proofs.Loops.{length-each}
+use Rattle.words.proofs.Order.{checks-after, checks-first, checks-given, checks-rest}
 use Rattle.mode.specs.Table.{pce-sprite}
 use Rattle.tile.specs.Inner.{Packs, pixelCount, packedIn}
 use Rattle.tile.specs.Tile.{isNative, packingOf, layoutOf, packed, tooLarge}
@@ -27,7 +27,7 @@ use Rattle.tileset.specs.Numbers.{rowCells, Grid}
 use Rattle.tileset.specs.Writing.{paddedCells, cellCount, cornerOf, block, tileAt, cornerAt, cellPixels, spriteBytes, cellBytes, cellsOf, setBytes, writeSize, writeSays}
 use Rattle.tileset.specs.declared.Set.{Set}
 use Rattle.tileset.proofs.Sizes.{IsSet, grid-set}
-use Rattle.tileset.proofs.Says.{checks-given, checks-after, checks-first, checks-rest, held-set, held-room, room-most, room-whole}
+use Rattle.tileset.proofs.Says.{held-set, held-room, room-most, room-whole}
 
 -- ---- whole rows of cells
 
@@ -71,13 +71,6 @@ module _ (w h y x : ℕ) (ew : w ≡ w / 8 * 8) (eh : h ≡ h / 8 * 8) (hy : y <
 
   pub block-in-store : (t n len : ℕ) → t < n → n * (w * h) ≤ len → t * (w * h) + y * 8 * w + x * 8 + 7 * w + 8 ≤ len
   block-in-store t n len lt fits = omega (arith, block-inside, mul-le-mul-right (w * h) lt, suc-mul t (w * h))
-
--- number i of numbers put one after the other
-pub each-getD : (n : ℕ) (g : ℕ → ℕ) (i : ℕ) → i < n → getD (each n (λ k. g k ∷ [])) i 0 ≡ g i
-each-getD n g i lt =
-    let f : ℕ → List ℕ = λ k. g k ∷ [] in
-    let e : i * 1 + 0 ≡ i = omega arith in
-    ap (λ (k : ℕ). getD (each n f) k 0) (sym e) ∙ item-getD 1 f (λ k. refl) n i lt 0 (omega arith)
 
 -- pixel i of a block
 pub block-at : (w corner len i : ℕ) → corner + 7 * w + 8 ≤ len → i < 64 → corner + i / 8 * w + i % 8 < len
@@ -145,15 +138,6 @@ module _ (z : Set) (len : ℕ) (held : heldSays z len ≡ 0) where
 
     pub corner-inside : cornerAt z c + 7 * z .width + 8 ≤ len
     corner-inside = le-trans corner-counted held-inside
-
--- ---- filling a slice from its start
-
-pub front-more : (k : ℕ) {f : ℕ → List ℕ} {out now then : List ℕ} {i : ℕ} → ((j : ℕ) → length (f j) ≡ k) → Filled f out 0 i now
-    → then ≡ sets now (i * k) (f i) → Filled f out 0 (i + 1) then
-front-more k {f} {now} {i} size h e = filled-more k size h (e ∙ ap (λ (n : ℕ). sets now n (f i)) (sym (zero-add (i * k))))
-
-pub front-one : {g : ℕ → ℕ} {out now : List ℕ} {i : ℕ} → Filled (λ k. g k ∷ []) out 0 i now → Filled (λ k. g k ∷ []) out 0 (i + 1) (set now i (g i))
-front-one {g} {now} {i} h = front-more 1 (λ j. refl) h (ap (λ (k : ℕ). set now k (g i)) (sym (mul-one i)))
 
 -- the room for one item more
 pub item-space : (n k space i : ℕ) → n * k ≤ space → i < n → i * k + k ≤ space

@@ -11,7 +11,7 @@ use lib.ListN.{length, getD, take, drop, replicate, getD-replicate, length-drop}
 use lib.Pow.{pow-pos}
 use lib.Seq.{getD-take, getD-drop, length-take-le}
 use borrow.Author.Tests.{leb-false, ltb-true, eqb-true}
-use Rattle.words.proofs.Items.{item-at, item-inside, none-at}
+use Rattle.words.proofs.Items.{item-at, item-inside, none-at, number-at}
 use Rattle.mode.specs.Table.{pce-sprite}
 use Rattle.tile.specs.Tile.{packingOf, packed, unpacked, tooLarge}
 use Rattle.tile.proofs.Native.{Native, fitting}
@@ -24,7 +24,7 @@ use Rattle.tileset.specs.declared.Set.{Set}
 use Rattle.tileset.proofs.Sizes.{IsSet, grid-set}
 use Rattle.tileset.proofs.Says.{held-set}
 use Rattle.tileset.proofs.NumberLaws.{belongs-start, row-start, column-start, single-starts}
-use Rattle.tileset.proofs.WritingLaws.{each-getD, block-at, block-length, native-cell, native-sprite, held-inside, corner-counted, cell-length, sprite-length, cell-set, sprite-set, cell-there, write-held, write-small}
+use Rattle.tileset.proofs.WritingLaws.{block-at, block-length, native-cell, native-sprite, held-inside, corner-counted, cell-length, sprite-length, cell-set, sprite-set, cell-there, write-held, write-small}
 
 -- n pixels, each below 2^d
 abbrev Small : ℕ → ℕ → List ℕ → Type 0
@@ -53,7 +53,7 @@ module _ (z : Set) (store : List ℕ) (space : ℕ) (done : writeSays z store sp
     block-small : tileAt z c < z .stored → (i : ℕ) → i < 64 → getD (block store corner (z .width)) i 0 < 2 ^ z .depth
     block-small lt i l =
         let inside = block-at (z .width) corner (z .stored * area z) i (corner-counted z (length store) held other c lt) l in
-        rw (each-getD 64 (λ k. getD store (corner + k / 8 * z .width + k % 8) 0) i l) (small-at (corner + i / 8 * z .width + i % 8) inside)
+        rw (number-at 64 (λ k. getD store (corner + k / 8 * z .width + k % 8) 0) i l) (small-at (corner + i / 8 * z .width + i % 8) inside)
 
     case : (b : Bool) → ltb (tileAt z c) (z .stored) ≡ b → Small 64 (z .depth) (cond b (block store corner (z .width)) (replicate 64 0))
     case true e = (block-length store corner (z .width), block-small (ltb-true (tileAt z c) (z .stored) e))
@@ -130,7 +130,7 @@ module _ (z : Set) (store : List ℕ) (space : ℕ) (done : writeSays z store sp
       let place : corner + y % 8 * z .width + x % 8 ≡ t * area z + y * z .width + x =
       omega (arith, corner-is, add-mul (y / 8 * 8) (y % 8) (z .width), ap (λ (k : ℕ). k * z .width) (div-add-mod' y 8), div-add-mod' x 8) in
       ap (λ (l : List ℕ). getD l j 0) (sym (cell-there z store cell (there ht)))
-      ∙ each-getD 64 (λ k. getD store (corner + k / 8 * z .width + k % 8) 0) j small
+      ∙ number-at 64 (λ k. getD store (corner + k / 8 * z .width + k % 8) 0) j small
       ∙ ap (λ (k : ℕ). getD store (corner + k * z .width + j % 8) 0) row
       ∙ ap (λ (k : ℕ). getD store (corner + y % 8 * z .width + k) 0) column
       ∙ ap (λ (k : ℕ). getD store k 0) place

@@ -2,15 +2,15 @@
 -- Assumes nothing.
 use mathlib.Core.Path.{_≡_, refl, sym, ap, _∙_}
 use mathlib.Core.List.{List, [], _∷_, _++_, append-nil}
-use Prim.Native.Nat.{ℕ, zero, suc, _+_, _*_, _<_, _≤_}
-use native.Mathlib.Nat.{add-zero, add-suc, suc-add, mul-one}
+use Prim.Native.Nat.{ℕ, suc, _+_, _*_, _≤_}
+use native.Mathlib.Nat.{zero-add, add-zero, add-suc, suc-add, mul-one}
 use native.Mathlib.Numerals.{add-one}
 use native.Mathlib.Omega.{arith}
-use lib.ListN.{length, getD, set, drop, drop-of-length-le}
+use lib.ListN.{length, getD, set, drop-of-length-le}
 use lib.Seq.{sets, length-sets, ext-getD}
 use Rattle.words.specs.Answers.{overwrite}
 use Rattle.words.specs.Loops.{each}
-use Rattle.words.proofs.Items.{item-getD}
+use Rattle.words.proofs.Items.{length-ones, number-at}
 use Rattle.words.proofs.Loops.{length-each, sets-front}
 
 pub sets-append : (xs ys l : List ℕ) (i : ℕ) → sets l i (xs ++ ys) ≡ sets (sets l i xs) (i + length xs) ys
@@ -45,6 +45,14 @@ pub filled-one : {g : ℕ → ℕ} {out now : List ℕ} {at i v : ℕ} → Fille
 filled-one {g} {out} {now} {at} {i} {v} h e =
     filled-more 1 (λ j. refl) h (ap (λ (x : ℕ). set now (at + i) x) e ∙ ap (λ (k : ℕ). set now (at + k) (g i)) (sym (mul-one i)))
 
+-- the same from the start on
+pub filled-next : (k : ℕ) {f : ℕ → List ℕ} {out now then : List ℕ} {i : ℕ} → ((j : ℕ) → length (f j) ≡ k) → Filled f out 0 i now → then ≡ sets now (i * k) (f i)
+    → Filled f out 0 (i + 1) then
+filled-next k {f} {now = now} {i = i} size h e = filled-more k size h (e ∙ ap (λ (n : ℕ). sets now n (f i)) (sym (zero-add (i * k))))
+
+pub filled-next-one : {g : ℕ → ℕ} {out now : List ℕ} {i : ℕ} → Filled (λ k. g k ∷ []) out 0 i now → Filled (λ k. g k ∷ []) out 0 (i + 1) (set now i (g i))
+filled-next-one {g} {now = now} {i = i} h = filled-next 1 (λ j. refl) h (ap (λ (k : ℕ). set now k (g i)) (sym (mul-one i)))
+
 -- all of them: from a place on, from the start, and where they are all that the slice has
 pub filled-all : {f : ℕ → List ℕ} {out now : List ℕ} {at i : ℕ} (n : ℕ) → Filled f out at i now → i ≡ n → now ≡ sets out at (each n f)
 filled-all {f} {out} {now} {at} n h e = h .is ∙ ap (λ (k : ℕ). sets out at (each k f)) e
@@ -61,7 +69,5 @@ filled-whole k {f} {out} n size h e whole =
 -- a list is its numbers, so that copying one is filling too
 pub each-of : (l : List ℕ) → each (length l) (λ k. getD l k 0 ∷ []) ≡ l
 each-of l =
-    let f : ℕ → List ℕ = λ k. getD l k 0 ∷ [] in
-    let long : length (each (length l) f) ≡ length l = length-each (length l) 1 f (λ k. refl) ∙ mul-one (length l) in
-    ext-getD 0 (each (length l) f) l long
-    (λ i lt. ap (λ (k : ℕ). getD (each (length l) f) k 0) (sym (ap (λ (k : ℕ). k + 0) (mul-one i) ∙ add-zero i)) ∙ item-getD 1 f (λ k. refl) (length l) i (omega (arith, long)) 0 (omega arith))
+    let long : length (each (length l) (λ k. getD l k 0 ∷ [])) ≡ length l = length-ones (length l) (λ k. getD l k 0) in
+    ext-getD 0 (each (length l) (λ k. getD l k 0 ∷ [])) l long (λ i lt. number-at (length l) (λ k. getD l k 0) i (omega (arith, long)))

@@ -2,10 +2,10 @@
 -- Assumes nothing.
 use mathlib.Core.Path.{_≡_, refl, sym, ap, _∙_}
 use mathlib.Core.Bool.{Bool, true, false, _||_}
-use mathlib.Core.List.{List, _++_}
+use mathlib.Core.List.{List, [], _∷_, _++_, append-assoc, append-nil}
 use mathlib.Core.Logic.{⊎-elim}
 use Prim.Native.Nat.{ℕ, zero, suc, _+_, _*_, _<_, _≤_}
-use native.Mathlib.Nat.{not-suc-le-zero, eq-or-lt-of-le, le-of-suc-le-suc, suc-mul, zero-mul, mul-le-mul-right}
+use native.Mathlib.Nat.{not-suc-le-zero, eq-or-lt-of-le, le-of-suc-le-suc, add-zero, add-suc, suc-mul, zero-mul, mul-one, mul-le-mul-right}
 use native.Mathlib.Numerals.{add-one}
 use native.Mathlib.Omega.{arith}
 use lib.ListN.{length, getD, take, drop, length-drop}
@@ -71,3 +71,27 @@ parts k (suc n) l h = rw (parts k n l (omega (arith, suc-mul n k)), suc-mul n k)
 
 pub whole-parts : (k n : ℕ) (l : List ℕ) → length l ≡ n * k → each n (λ i. take k (drop (i * k) l)) ≡ l
 whole-parts k n l e = parts k n l (omega arith) ∙ take-all (n * k) l (omega arith)
+
+-- ---- numbers one after the other: how many, and each by its place
+pub length-ones : (n : ℕ) (f : ℕ → ℕ) → length (each n (λ k. f k ∷ [])) ≡ n
+length-ones n f = length-each n 1 (λ k. f k ∷ []) (λ k. refl) ∙ mul-one n
+
+pub number-at : (n : ℕ) (f : ℕ → ℕ) (i : ℕ) → i < n → getD (each n (λ k. f k ∷ [])) i 0 ≡ f i
+number-at n f i lt =
+    let e : i * 1 + 0 ≡ i = omega arith in
+    ap (λ (k : ℕ). getD (each n (λ k. f k ∷ [])) k 0) (sym e) ∙ item-getD 1 (λ k. f k ∷ []) (λ k. refl) n i lt 0 (omega arith)
+
+-- ---- items after items, and items of items
+pub each-add : (n k : ℕ) (f : ℕ → List ℕ) → each (n + k) f ≡ each n f ++ each k (λ j. f (n + j))
+each-add n zero f = ap (λ (i : ℕ). each i f) (add-zero n) ∙ sym (append-nil (each n f))
+each-add n (suc k) f =
+    ap (λ (i : ℕ). each i f) (add-suc n k)
+    ∙ ap (λ (l : List ℕ). l ++ f (n + k)) (each-add n k f)
+    ∙ append-assoc (each n f) (each k (λ j. f (n + j))) (f (n + k))
+
+pub each-each : (n k : ℕ) (f : ℕ → List ℕ) → each n (λ i. each k (λ j. f (i * k + j))) ≡ each (n * k) f
+each-each zero k f = ap (λ (i : ℕ). each i f) (sym (zero-mul k))
+each-each (suc n) k f =
+    ap (λ (l : List ℕ). l ++ each k (λ j. f (n * k + j))) (each-each n k f)
+    ∙ sym (each-add (n * k) k f)
+    ∙ ap (λ (i : ℕ). each i f) (sym (suc-mul n k))

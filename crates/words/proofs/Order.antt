@@ -1,14 +1,15 @@
 -- A call's checks in the order of their numbers: the first that applies is the lowest.
 -- Assumes nothing.
-use mathlib.Core.Path.{_≡_, refl, sym, ap, _∙_}
+use mathlib.Core.Path.{_≡_, refl, sym, _∙_}
 use mathlib.Core.Bool.{Bool, true, false, _&&_}
 use mathlib.Core.List.{List, [], _∷_, _++_}
 use mathlib.Core.Logic.{_⊎_, inl, inr}
-use Prim.Native.Nat.{ℕ, zero, suc, _≤_, min}
+use Prim.Native.Nat.{ℕ, zero, suc, _≤_}
 use native.Mathlib.Nat.{suc-ne-zero}
 use native.Mathlib.Omega.{arith}
 use lib.Dec.{T, leb, leb→le}
 use Rattle.words.specs.Answers.{_when_, firstApplying, lower, lowest}
+use Rattle.words.proofs.Answers.{all-passed, first-given}
 use Rattle.words.proofs.Loops.{both-left, both-right}
 
 -- checks after checks: the first list's answer stands for it
@@ -16,6 +17,25 @@ pub first-append : (xs ys : List ℕ) → firstApplying (xs ++ ys) ≡ firstAppl
 first-append [] ys = refl
 first-append (zero ∷ xs) ys = first-append xs ys
 first-append (suc n ∷ xs) ys = refl
+
+-- the first check passed
+pub next-given : {n : ℕ} (ns : List ℕ) → n ≡ 0 → firstApplying (n ∷ ns) ≡ firstApplying ns
+next-given {n = zero} ns e = refl
+next-given {n = suc n} ns e = absurd (suc-ne-zero n e)
+
+-- a number of the first list is given, all of the first list passed, and both did
+module _ (xs ys : List ℕ) where
+  pub checks-given : (n : ℕ) → n ≡ firstApplying xs → (n ≡ 0 → ⊥) → n ≡ firstApplying (xs ++ ys)
+  checks-given n e due = first-given n ys e due ∙ sym (first-append xs ys)
+
+  pub checks-after : firstApplying xs ≡ 0 → firstApplying (xs ++ ys) ≡ firstApplying ys
+  checks-after e = first-append xs ys ∙ next-given ys e
+
+  pub checks-first : firstApplying (xs ++ ys) ≡ 0 → firstApplying xs ≡ 0
+  checks-first e = all-passed (firstApplying xs ∷ ys) (sym (first-append xs ys) ∙ e) 0
+
+  pub checks-rest : firstApplying (xs ++ ys) ≡ 0 → firstApplying ys ≡ 0
+  checks-rest e = sym (checks-after (checks-first e)) ∙ e
 
 -- the test that is computed of a call's numbers
 abbrev rising : ℕ → List ℕ → Bool
@@ -35,6 +55,13 @@ Gives (k ∷ ks) (n ∷ ns) = ((n ≡ 0) ⊎ (n ≡ k)) × Gives ks ns
 pub gives-when : (k : ℕ) (b : Bool) → (k when b ≡ 0) ⊎ (k when b ≡ k)
 gives-when k true = inr refl
 gives-when k false = inl refl
+
+-- one check more
+pub gives-more : (ks ns : List ℕ) (k : ℕ) (b : Bool) → Gives ks ns → Gives (ks ++ k ∷ []) (ns ++ k when b ∷ [])
+gives-more [] [] k b g = (gives-when k b, tt)
+gives-more [] (n ∷ ns) k b g = absurd g
+gives-more (j ∷ ks) [] k b g = absurd g
+gives-more (j ∷ ks) (n ∷ ns) k b g = (g .0, gives-more ks ns k b (g .1))
 
 -- the lower of two numbers that are from j on, where they are not 0
 lower-from : (j n x : ℕ) → (n ≡ 0) ⊎ (n ≡ j) → (x ≡ 0) ⊎ (j ≤ x) → (lower n x ≡ 0) ⊎ (j ≤ lower n x)

@@ -1,19 +1,19 @@
 -- Where a value stands in a word made of fields: a value that has one field, and one that begins the word and may have a field more.
 -- Assumes nothing.
-use mathlib.Core.Path.{_≡_, refl, sym, ap, _∙_}
+use mathlib.Core.Path.{_≡_, refl, sym, _∙_}
 use mathlib.Core.Bool.{Bool, true, false, cond}
 use mathlib.Core.List.{List, [], _∷_}
 use Prim.Native.Nat.{ℕ, _+_, _*_, _/_, _%_, _^_, _<_}
 use native.Mathlib.Nat.{add-zero, zero-add, add-comm, mul-zero, mod-one}
 use native.Mathlib.Omega.{arith}
 use lib.Dec.{T, eqb, eqb→eq}
-use lib.ListN.{length, getD, set}
+use lib.ListN.{length, getD}
 use lib.Pow.{shr-shr, mod-pow-add, pow-add}
 use lib.Seq.{getD-set-same, getD-set-other}
 use borrow.Author.Tests.{eqb-true, eqb-false}
 use Rattle.words.specs.Fields.{Field, split}
 use Rattle.words.specs.Inner.{bitsFor, areFields, startOf, runOf, startAgain}
-use Rattle.words.proofs.Fields.{Held, length-split, split-held, first-field, other-fields}
+use Rattle.words.proofs.Fields.{Held, length-split, split-held, other-fields}
 
 -- value k has one field at most; and one at most after those that it begins with
 abbrev pub once : ℕ → List Field → Bool

@@ -14,21 +14,6 @@ abbrev μ-loop : tie.MeasureT-loop
 loop-holds : tie.Need-loop-holds Inv-loop μ-loop
 loop-holds c = search needs
 
-sub-one : tie.Need-sub-one Inv-loop μ-loop
-sub-one c = search needs
-
-part-one-start : tie.Need-part-one-start Inv-loop μ-loop
-part-one-start c = search needs
-
-part-one-end : tie.Need-part-one-end Inv-loop μ-loop
-part-one-end c = search needs
-
-one-requires : tie.Need-one-requires Inv-loop μ-loop
-one-requires c κs = search needs
-
-add-at : tie.Need-add-at Inv-loop μ-loop
-add-at c = search needs
-
 loop-less : tie.Need-loop-less Inv-loop μ-loop
 loop-less c = search needs
 
@@ -45,11 +30,11 @@ each-spec =
     Inv-loop
     μ-loop
     loop-holds
-    sub-one
-    part-one-start
-    part-one-end
-    one-requires
-    add-at
+    (λ c. search needs)
+    (λ c. search needs)
+    (λ c. search needs)
+    (λ c κs. search needs)
+    (λ c. search needs)
     loop-less
     loop-again
     returns)

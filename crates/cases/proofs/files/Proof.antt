@@ -13,12 +13,6 @@ abbrev μ-loop : tie.MeasureT-loop
 loop-holds : tie.Need-loop-holds Inv-loop μ-loop
 loop-holds c = search needs
 
-file-requires : tie.Need-file-requires Inv-loop μ-loop
-file-requires c κs = search needs
-
-add-i : tie.Need-add-i Inv-loop μ-loop
-add-i c = search needs
-
 loop-less : tie.Need-loop-less Inv-loop μ-loop
 loop-less c = search needs
 
@@ -31,4 +25,4 @@ returns c = search needs
 pub files-spec : {M : Type 1} → statement M
 files-spec =
     tie.close
-    (tie.spec Inv-loop μ-loop loop-holds file-requires add-i loop-less loop-again returns)
+    (tie.spec Inv-loop μ-loop loop-holds (λ c κs. search needs) (λ c. search needs) loop-less loop-again returns)

@@ -10,11 +10,8 @@ returns c = rw (c .before .if1 .taken)
 returns-2 : tie.Need-returns-2
 returns-2 c = rw (c .before .if1 .left, c .if2 .taken)
 
-rem-result : tie.Need-rem-result
-rem-result c = search needs
-
 returns-3 : tie.Need-returns-3
 returns-3 c = rw (c .before .before .if1 .left, c .before .if2 .left)
 
 pub can-unpack-spec : {M : Type 1} → statement M
-can-unpack-spec = tie.close (tie.spec returns returns-2 rem-result returns-3)
+can-unpack-spec = tie.close (tie.spec returns returns-2 (λ c. search needs) returns-3)

@@ -7,11 +7,8 @@ use Rattle.color.proofs.color_count.Tie as tie
 returns : tie.Need-returns
 returns c = rw (c .if1 .taken)
 
-div-result : tie.Need-div-result
-div-result c = search needs
-
 returns-2 : tie.Need-returns-2
 returns-2 c = rw (c .before .if1 .left)
 
 pub color-count-spec : {M : Type 1} → statement M
-color-count-spec = tie.close (tie.spec returns div-result returns-2)
+color-count-spec = tie.close (tie.spec returns (λ c. search needs) returns-2)

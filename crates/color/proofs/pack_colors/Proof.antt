@@ -30,22 +30,10 @@ sized c =
     let a = c .before .before .before .before .before .before .before .args in
     c .packed-size .ensures ∙ packs-size (a .mode) (omega arith) (now (a .colors)) (c .before .before .before .color-places-of .result) (c .before .before .before .color-places-of .ensures .0)
 
-refused-requires : tie.Need-refused-requires
-refused-requires c κs = search needs
-
 returns : tie.Need-returns
 returns c =
     let a = c .before .before .before .before .args in
     refuse 1 (sym (pack-no-mode (a .mode) (now (a .colors)) (length (now (a .out))) (c .before .if1 .taken))) (suc-ne-zero 0) (c .refused .ensures) refl
-
-color-places-of-requires : tie.Need-color-places-of-requires
-color-places-of-requires c κs = search needs
-
-pack-says-requires : tie.Need-pack-says-requires
-pack-says-requires c κs = search needs
-
-refused-requires-2 : tie.Need-refused-requires-2
-refused-requires-2 c κs = search needs
 
 returns-2 : tie.Need-returns-2
 returns-2 c =
@@ -53,9 +41,6 @@ returns-2 c =
     refuse (c .before .before .pack-says .result)
     (c .before .before .pack-says .ensures ∙ packs-says (a .mode) (omega arith) (now (a .colors)) (c .before .before .before .color-places-of .result) (c .before .before .before .color-places-of .ensures .0) (length (now (a .out))))
     (c .before .if2 .taken) (c .refused2 .ensures) refl
-
-packed-size-requires : tie.Need-packed-size-requires
-packed-size-requires c κs = search needs
 
 four-word-requires : tie.Need-four-word-requires
 four-word-requires c κs =
@@ -67,9 +52,6 @@ put-word-requires c κs =
     let fits = rw (c .before .before .if3 .taken) at (passed (c .before .before .before .before) .fits) in
     let l = c .before .before .before .before .before .before .color-places-of in
     (omega arith, l .ensures .1 .some, l .ensures .1 .few)
-
-same-length : tie.Need-same-length
-same-length c = search needs
 
 returns-3 : tie.Need-returns-3
 returns-3 c =
@@ -87,9 +69,6 @@ put-words-requires c κs =
     let p = passed (c .before .before .before) in
     (l .ensures .1, words-within (l .result) (now (a .colors)) (length (now (a .out))) p, rw (c .before .if3 .left) at (p .fits))
 
-same-length-2 : tie.Need-same-length-2
-same-length-2 c = search needs
-
 returns-4 : tie.Need-returns-4
 returns-4 c =
     let a = c .before .before .before .before .before .before .before .before .before .before .before .before .args in
@@ -104,17 +83,17 @@ pub pack-colors-spec : {M : Type 1} → statement M
 pack-colors-spec =
     tie.close
     (tie.spec
-    refused-requires
+    (λ c κs. search needs)
     returns
-    color-places-of-requires
-    pack-says-requires
-    refused-requires-2
+    (λ c κs. search needs)
+    (λ c κs. search needs)
+    (λ c κs. search needs)
     returns-2
-    packed-size-requires
+    (λ c κs. search needs)
     four-word-requires
     put-word-requires
-    same-length
+    (λ c. search needs)
     returns-3
     put-words-requires
-    same-length-2
+    (λ c. search needs)
     returns-4)

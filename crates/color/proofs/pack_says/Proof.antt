@@ -6,23 +6,14 @@ use borrow.Author.Needs.{needs}
 use Rattle.color.proofs.pack_says.Statement.{statement}
 use Rattle.color.proofs.pack_says.Tie as tie
 
-can-pack-requires : tie.Need-can-pack-requires
-can-pack-requires c κs = search needs
-
 returns : tie.Need-returns
 unfolding placedPackSays
 returns c = rw (← c .before .can-pack .ensures, not-true (c .before .can-pack .result) (c .if1 .taken))
-
-some-above-requires : tie.Need-some-above-requires
-some-above-requires c κs = search needs
 
 returns-2 : tie.Need-returns-2
 unfolding placedPackSays
 returns-2 c =
     rw (← c .before .before .before .can-pack .ensures, not-false (c .before .before .before .can-pack .result) (c .before .before .if1 .left), ← c .before .some-above .ensures, c .if2 .taken)
-
-packed-size-requires : tie.Need-packed-size-requires
-packed-size-requires c κs = search needs
 
 returns-3 : tie.Need-returns-3
 unfolding placedPackSays
@@ -38,10 +29,10 @@ pub pack-says-spec : {M : Type 1} → statement M
 pack-says-spec =
     tie.close
     (tie.spec
-    can-pack-requires
+    (λ c κs. search needs)
     returns
-    some-above-requires
+    (λ c κs. search needs)
     returns-2
-    packed-size-requires
+    (λ c κs. search needs)
     returns-3
     returns-4)

@@ -5,29 +5,8 @@ use borrow.Author.Needs.{needs}
 use Rattle.color.proofs.put_color_from.Statement.{statement}
 use Rattle.color.proofs.put_color_from.Tie as tie
 
-put-gray-requires : tie.Need-put-gray-requires
-put-gray-requires c κs = search needs
-
-same-length : tie.Need-same-length
-same-length c = search needs
-
 returns : tie.Need-returns
 returns c = c .before .before .put-gray .ensures ∙ rw (c .before .before .before .before .if1 .taken)
-
-value-at-requires : tie.Need-value-at-requires
-value-at-requires c κs = search needs
-
-value-at-requires-2 : tie.Need-value-at-requires-2
-value-at-requires-2 c κs = search needs
-
-value-at-requires-3 : tie.Need-value-at-requires-3
-value-at-requires-3 c κs = search needs
-
-put-color-requires : tie.Need-put-color-requires
-put-color-requires c κs = search needs
-
-same-length-2 : tie.Need-same-length-2
-same-length-2 c = search needs
 
 returns-2 : tie.Need-returns-2
 returns-2 c =
@@ -37,12 +16,12 @@ pub put-color-from-spec : {M : Type 1} → statement M
 put-color-from-spec =
     tie.close
     (tie.spec
-    put-gray-requires
-    same-length
+    (λ c κs. search needs)
+    (λ c. search needs)
     returns
-    value-at-requires
-    value-at-requires-2
-    value-at-requires-3
-    put-color-requires
-    same-length-2
+    (λ c κs. search needs)
+    (λ c κs. search needs)
+    (λ c κs. search needs)
+    (λ c κs. search needs)
+    (λ c. search needs)
     returns-2)

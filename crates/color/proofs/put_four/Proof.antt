@@ -8,21 +8,6 @@ use borrow.Author.Needs.{needs}
 use Rattle.color.proofs.put_four.Statement.{statement}
 use Rattle.color.proofs.put_four.Tie as tie
 
-put-gray-requires : tie.Need-put-gray-requires
-put-gray-requires c κs = search needs
-
-put-gray-requires-2 : tie.Need-put-gray-requires-2
-put-gray-requires-2 c κs = search needs
-
-put-gray-requires-3 : tie.Need-put-gray-requires-3
-put-gray-requires-3 c κs = search needs
-
-put-gray-requires-4 : tie.Need-put-gray-requires-4
-put-gray-requires-4 c κs = search needs
-
-same-length : tie.Need-same-length
-same-length c = search needs
-
 returns : tie.Need-returns
 returns c =
     let a = c .before .before .before .before .before .before .before .before .before .before .before .before .before .before .before .before .before .args in
@@ -34,9 +19,9 @@ pub put-four-spec : {M : Type 1} → statement M
 put-four-spec =
     tie.close
     (tie.spec
-    put-gray-requires
-    put-gray-requires-2
-    put-gray-requires-3
-    put-gray-requires-4
-    same-length
+    (λ c κs. search needs)
+    (λ c κs. search needs)
+    (λ c κs. search needs)
+    (λ c κs. search needs)
+    (λ c. search needs)
     returns)

@@ -6,21 +6,9 @@ use borrow.Author.Needs.{needs}
 use Rattle.color.proofs.reduce_channel.Statement.{statement}
 use Rattle.color.proofs.reduce_channel.Tie as tie
 
-no-number-requires : tie.Need-no-number-requires
-no-number-requires c κs = search needs
-
 returns : tie.Need-returns
 returns c =
     c .no-number .ensures ∙ rw (lt-ltb 15 _ (c .before .if1 .taken))
-
-color-places-of-requires : tie.Need-color-places-of-requires
-color-places-of-requires c κs = search needs
-
-wide-requires : tie.Need-wide-requires
-wide-requires c κs = search needs
-
-reduced-to-requires : tie.Need-reduced-to-requires
-reduced-to-requires c κs = search needs
 
 returns-2 : tie.Need-returns-2
 returns-2 c =
@@ -30,9 +18,9 @@ pub reduce-channel-spec : {M : Type 1} → statement M
 reduce-channel-spec =
     tie.close
     (tie.spec
-    no-number-requires
+    (λ c κs. search needs)
     returns
-    color-places-of-requires
-    wide-requires
-    reduced-to-requires
+    (λ c κs. search needs)
+    (λ c κs. search needs)
+    (λ c κs. search needs)
     returns-2)

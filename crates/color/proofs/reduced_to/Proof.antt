@@ -8,18 +8,6 @@ use borrow.Author.Needs.{needs}
 use Rattle.color.proofs.reduced_to.Statement.{statement}
 use Rattle.color.proofs.reduced_to.Tie as tie
 
-enum-told : tie.Need-enum-told
-enum-told c = search needs
-
-sub-down : tie.Need-sub-down
-sub-down c = search needs
-
-down-requires : tie.Need-down-requires
-down-requires c κs = search needs
-
-enum-told-2 : tie.Need-enum-told-2
-enum-told-2 c = search needs
-
 mul-result : tie.Need-mul-result
 mul-result c =
     let a = c .before .before .before .args in
@@ -41,4 +29,4 @@ returns-2 c = rw (c .before .enum-told2 .given .1)
 pub reduced-to-spec : {M : Type 1} → statement M
 reduced-to-spec =
     tie.close
-    (tie.spec enum-told sub-down down-requires enum-told-2 mul-result add-result returns returns-2)
+    (tie.spec (λ c. search needs) (λ c. search needs) (λ c κs. search needs) (λ c. search needs) mul-result add-result returns returns-2)

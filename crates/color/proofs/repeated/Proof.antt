@@ -8,40 +8,16 @@ use borrow.Author.Needs.{needs}
 use Rattle.color.proofs.repeated.Statement.{statement}
 use Rattle.color.proofs.repeated.Tie as tie
 
-sub-up : tie.Need-sub-up
-sub-up c = search needs
-
-up-requires : tie.Need-up-requires
-up-requires c κs = search needs
-
-down-requires : tie.Need-down-requires
-down-requires c κs = search needs
-
 add-result : tie.Need-add-result
 add-result c =
     let s = c .before .before in
     omega (arith, up-under {p = 8 - s .args .bits} 8 8 (s .pre .1) (omega arith), shr-le (c .before .up .result) (s .args .bits))
-
-add-down : tie.Need-add-down
-add-down c = search needs
-
-down-requires-2 : tie.Need-down-requires-2
-down-requires-2 c κs = search needs
 
 add-result-2 : tie.Need-add-result-2
 add-result-2 c =
     let s = c .before .before .before in
     let x = c .before .before .up .result in
     omega (arith, up-under {p = 8 - s .args .bits} 8 8 (s .pre .1) (omega arith), shr-le x (s .args .bits), shr-le x (s .args .bits + s .args .bits))
-
-add-down-2 : tie.Need-add-down-2
-add-down-2 c = search needs
-
-add-down-3 : tie.Need-add-down-3
-add-down-3 c = search needs
-
-down-requires-3 : tie.Need-down-requires-3
-down-requires-3 c κs = search needs
 
 add-result-3 : tie.Need-add-result-3
 add-result-3 c =
@@ -57,15 +33,15 @@ pub repeated-spec : {M : Type 1} → statement M
 repeated-spec =
     tie.close
     (tie.spec
-    sub-up
-    up-requires
-    down-requires
+    (λ c. search needs)
+    (λ c κs. search needs)
+    (λ c κs. search needs)
     add-result
-    add-down
-    down-requires-2
+    (λ c. search needs)
+    (λ c κs. search needs)
     add-result-2
-    add-down-2
-    add-down-3
-    down-requires-3
+    (λ c. search needs)
+    (λ c. search needs)
+    (λ c κs. search needs)
     add-result-3
     returns)

@@ -10,27 +10,15 @@ use borrow.Author.Needs.{needs}
 use Rattle.color.proofs.scale_up.Statement.{statement}
 use Rattle.color.proofs.scale_up.Tie as tie
 
-no-number-requires : tie.Need-no-number-requires
-no-number-requires c κs = search needs
-
 returns : tie.Need-returns
 returns c =
     c .no-number .ensures ∙ rw (lt-ltb 15 _ (c .before .if1 .taken))
-
-color-places-of-requires : tie.Need-color-places-of-requires
-color-places-of-requires c κs = search needs
-
-no-number-requires-2 : tie.Need-no-number-requires-2
-no-number-requires-2 c κs = search needs
 
 returns-2 : tie.Need-returns-2
 returns-2 c =
     let a = c .before .before .before .before .before .args in
     let over : row (a .mode) .top < a .component = rw (c .before .before .before .color-places-of .ensures .0) at (c .before .if2 .taken) in
     c .no-number2 .ensures ∙ rw (le-ltb 15 _ (c .before .before .before .before .if1 .left), lt-ltb _ _ over)
-
-repeated-requires : tie.Need-repeated-requires
-repeated-requires c κs = search needs
 
 returns-3 : tie.Need-returns-3
 returns-3 c =
@@ -42,10 +30,10 @@ pub scale-up-spec : {M : Type 1} → statement M
 scale-up-spec =
     tie.close
     (tie.spec
-    no-number-requires
+    (λ c κs. search needs)
     returns
-    color-places-of-requires
-    no-number-requires-2
+    (λ c κs. search needs)
+    (λ c κs. search needs)
     returns-2
-    repeated-requires
+    (λ c κs. search needs)
     returns-3)

@@ -35,22 +35,10 @@ sized c =
     let a = c .before .before .before .before .before .before .before .args in
     rw (c .color-count .ensures) (unpacks-size (a .mode) (omega arith) (now (a .bytes)) (c .before .before .before .color-places-of .result) (c .before .before .before .color-places-of .ensures .0))
 
-refused-requires : tie.Need-refused-requires
-refused-requires c κs = search needs
-
 returns : tie.Need-returns
 returns c =
     let a = c .before .before .before .before .args in
     refuse 1 (sym (unpack-no-mode (a .mode) (length (now (a .bytes))) (length (now (a .out))) (c .before .if1 .taken))) (suc-ne-zero 0) (c .refused .ensures) refl
-
-color-places-of-requires : tie.Need-color-places-of-requires
-color-places-of-requires c κs = search needs
-
-unpack-says-requires : tie.Need-unpack-says-requires
-unpack-says-requires c κs = search needs
-
-refused-requires-2 : tie.Need-refused-requires-2
-refused-requires-2 c κs = search needs
 
 returns-2 : tie.Need-returns-2
 returns-2 c =
@@ -58,9 +46,6 @@ returns-2 c =
     refuse (c .before .before .unpack-says .result)
     (c .before .before .unpack-says .ensures ∙ unpacks-says (a .mode) (omega arith) (now (a .bytes)) (c .before .before .before .color-places-of .result) (c .before .before .before .color-places-of .ensures .0) (length (now (a .out))))
     (c .before .if2 .taken) (c .refused2 .ensures) refl
-
-color-count-requires : tie.Need-color-count-requires
-color-count-requires c κs = search needs
 
 get-word-requires : tie.Need-get-word-requires
 get-word-requires c κs =
@@ -76,9 +61,6 @@ put-four-requires c κs =
 
 mul-t15 : tie.Need-mul-t15
 mul-t15 c = omega (arith, space (c .before .before .before .before .before .before), c .before .before .before .before .before .before .before .before .before .before .before .before .before .good)
-
-same-length : tie.Need-same-length
-same-length c = search needs
 
 returns-3 : tie.Need-returns-3
 returns-3 c =
@@ -99,9 +81,6 @@ put-colors-requires c κs =
 mul-t11 : tie.Need-mul-t11
 mul-t11 c = omega (arith, space (c .before .before .before .before .before), c .before .before .before .before .before .before .before .before .before .before .before .before .good)
 
-same-length-2 : tie.Need-same-length-2
-same-length-2 c = search needs
-
 returns-4 : tie.Need-returns-4
 returns-4 c =
     let a = c .before .before .before .before .before .before .before .before .before .before .before .before .args in
@@ -115,19 +94,19 @@ pub unpack-colors-spec : {M : Type 1} → statement M
 unpack-colors-spec =
     tie.close
     (tie.spec
-    refused-requires
+    (λ c κs. search needs)
     returns
-    color-places-of-requires
-    unpack-says-requires
-    refused-requires-2
+    (λ c κs. search needs)
+    (λ c κs. search needs)
+    (λ c κs. search needs)
     returns-2
-    color-count-requires
+    (λ c κs. search needs)
     get-word-requires
     put-four-requires
     mul-t15
-    same-length
+    (λ c. search needs)
     returns-3
     put-colors-requires
     mul-t11
-    same-length-2
+    (λ c. search needs)
     returns-4)

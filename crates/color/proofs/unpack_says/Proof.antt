@@ -8,15 +8,9 @@ use borrow.Author.Needs.{needs}
 use Rattle.color.proofs.unpack_says.Statement.{statement}
 use Rattle.color.proofs.unpack_says.Tie as tie
 
-can-unpack-requires : tie.Need-can-unpack-requires
-can-unpack-requires c κs = search needs
-
 returns : tie.Need-returns
 unfolding placedUnpackSays
 returns c = rw (← c .before .can-unpack .ensures, not-true (c .before .can-unpack .result) (c .if1 .taken))
-
-color-count-requires : tie.Need-color-count-requires
-color-count-requires c κs = search needs
 
 returns-2 : tie.Need-returns-2
 unfolding placedUnpackSays
@@ -32,4 +26,4 @@ returns-3 c =
 
 pub unpack-says-spec : {M : Type 1} → statement M
 unpack-says-spec =
-    tie.close (tie.spec can-unpack-requires returns color-count-requires returns-2 returns-3)
+    tie.close (tie.spec (λ c κs. search needs) returns (λ c κs. search needs) returns-2 returns-3)

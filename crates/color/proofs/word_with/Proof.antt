@@ -6,27 +6,15 @@ use borrow.Author.Needs.{needs}
 use Rattle.color.proofs.word_with.Statement.{statement}
 use Rattle.color.proofs.word_with.Tie as tie
 
-up-requires : tie.Need-up-requires
-up-requires c κs = search needs
-
-up-requires-2 : tie.Need-up-requires-2
-up-requires-2 c κs = search needs
-
 add-result : tie.Need-add-result
 add-result c =
     let s = c .before .before in
     omega (arith, up-under 8 16 (s .pre .1) (s .pre .0 .first), up-under 8 16 (s .pre .2) (s .pre .0 .second))
 
-up-requires-3 : tie.Need-up-requires-3
-up-requires-3 c κs = search needs
-
 add-result-2 : tie.Need-add-result-2
 add-result-2 c =
     let s = c .before .before .before in
     omega (arith, up-under 8 16 (s .pre .1) (s .pre .0 .first), up-under 8 16 (s .pre .2) (s .pre .0 .second), up-under 8 16 (s .pre .3) (s .pre .0 .third))
-
-up-requires-4 : tie.Need-up-requires-4
-up-requires-4 c κs = search needs
 
 add-result-3 : tie.Need-add-result-3
 add-result-3 c =
@@ -40,11 +28,11 @@ pub word-with-spec : {M : Type 1} → statement M
 word-with-spec =
     tie.close
     (tie.spec
-    up-requires
-    up-requires-2
+    (λ c κs. search needs)
+    (λ c κs. search needs)
     add-result
-    up-requires-3
+    (λ c κs. search needs)
     add-result-2
-    up-requires-4
+    (λ c κs. search needs)
     add-result-3
     returns)

@@ -5,12 +5,6 @@ use borrow.Author.Needs.{needs}
 use Rattle.flip.proofs.eight_from.Statement.{statement}
 use Rattle.flip.proofs.eight_from.Tie as tie
 
-sub-result : tie.Need-sub-result
-sub-result c = search needs
-
-sub-result-2 : tie.Need-sub-result-2
-sub-result-2 c = search needs
-
 returns : tie.Need-returns
 returns c = (from-turned _ _ _ (c .if1 .taken), omega (arith, c .before .pre))
 
@@ -18,4 +12,4 @@ returns-2 : tie.Need-returns-2
 returns-2 c = search needs
 
 pub eight-from-spec : {M : Type 1} → statement M
-eight-from-spec = tie.close (tie.spec sub-result sub-result-2 returns returns-2)
+eight-from-spec = tie.close (tie.spec (λ c. search needs) (λ c. search needs) returns returns-2)

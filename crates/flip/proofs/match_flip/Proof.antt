@@ -6,9 +6,6 @@ use Rattle.flip.specs.Matching.{matchFlip}
 use Rattle.flip.proofs.match_flip.Statement.{statement}
 use Rattle.flip.proofs.match_flip.Tie as tie
 
-same-flipped-requires : tie.Need-same-flipped-requires
-same-flipped-requires c κs = search needs
-
 returns : tie.Need-returns
 unfolding matchFlip
 returns c = simp (sym (c .before .same-flipped .ensures) ∙ c .if1 .taken)
@@ -18,9 +15,6 @@ unfolding matchFlip
 returns-2 c =
     let first = c .before in
     simp (sym (first .before .same-flipped .ensures) ∙ first .if1 .left, not-true (first .before .before .before .before .args .flips) (c .if2 .taken))
-
-same-flipped-requires-2 : tie.Need-same-flipped-requires-2
-same-flipped-requires-2 c κs = search needs
 
 returns-3 : tie.Need-returns-3
 unfolding matchFlip
@@ -32,9 +26,6 @@ returns-3 c =
       not-false (first .before .before .before .before .args .flips) (on .if2 .left),
       sym (c .before .same-flipped2 .ensures) ∙ c .if3 .taken,
     )
-
-same-flipped-requires-3 : tie.Need-same-flipped-requires-3
-same-flipped-requires-3 c κs = search needs
 
 returns-4 : tie.Need-returns-4
 unfolding matchFlip
@@ -48,9 +39,6 @@ returns-4 c =
       sym (second .before .same-flipped2 .ensures) ∙ second .if3 .left,
       sym (c .before .same-flipped3 .ensures) ∙ c .if4 .taken,
     )
-
-same-flipped-requires-4 : tie.Need-same-flipped-requires-4
-same-flipped-requires-4 c κs = search needs
 
 returns-5 : tie.Need-returns-5
 unfolding matchFlip
@@ -86,13 +74,13 @@ pub match-flip-spec : {M : Type 1} → statement M
 match-flip-spec =
     tie.close
     (tie.spec
-    same-flipped-requires
+    (λ c κs. search needs)
     returns
     returns-2
-    same-flipped-requires-2
+    (λ c κs. search needs)
     returns-3
-    same-flipped-requires-3
+    (λ c κs. search needs)
     returns-4
-    same-flipped-requires-4
+    (λ c κs. search needs)
     returns-5
     returns-6)

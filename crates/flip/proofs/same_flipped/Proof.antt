@@ -36,9 +36,6 @@ module _ (c : tie.After-turned Inv-loop μ-loop) where
 loop-holds : tie.Need-loop-holds Inv-loop μ-loop
 loop-holds c = (search needs, λ k p. absurd (omega arith))
 
-turned-requires : tie.Need-turned-requires Inv-loop μ-loop
-turned-requires c κs = search needs
-
 mul-from : tie.Need-mul-from Inv-loop μ-loop
 mul-from c = omega (arith, store-row c)
 
@@ -59,9 +56,6 @@ returns c =
     let s = turn .before .before .before .before in
     sym (row-differs (s .args .f) _ _ _ _ _ (s .pre) (turn .before .loop .y) (turn .loop-test .taken)
     (row-told _ _ _ _ _ _ _ _ (row .result) false (c .before .before .turned .ensures .0) (not-true (row .result) (c .if1 .taken)) (row .ensures)))
-
-add-y : tie.Need-add-y Inv-loop μ-loop
-add-y c = search needs
 
 loop-less : tie.Need-loop-less Inv-loop μ-loop
 loop-less c = search needs
@@ -88,13 +82,13 @@ same-flipped-spec =
     Inv-loop
     μ-loop
     loop-holds
-    turned-requires
+    (λ c κs. search needs)
     mul-from
     add-from
     mul-same-row
     same-row-requires
     returns
-    add-y
+    (λ c. search needs)
     loop-less
     loop-again
     returns-2)

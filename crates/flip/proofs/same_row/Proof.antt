@@ -34,27 +34,9 @@ module _ (c : tie.After-eight2 Inv-loop μ-loop) where
 loop-holds : tie.Need-loop-holds Inv-loop μ-loop
 loop-holds c = search needs
 
-eight-from-requires : tie.Need-eight-from-requires Inv-loop μ-loop
-eight-from-requires c κs = search needs
-
-add-eight : tie.Need-add-eight Inv-loop μ-loop
-add-eight c = search needs
-
-eight-requires : tie.Need-eight-requires Inv-loop μ-loop
-eight-requires c κs = search needs
-
-add-eight-2 : tie.Need-add-eight-2 Inv-loop μ-loop
-add-eight-2 c = search needs
-
-eight-requires-2 : tie.Need-eight-requires-2 Inv-loop μ-loop
-eight-requires-2 c κs = search needs
-
 returns : tie.Need-returns Inv-loop μ-loop
 returns c =
     eight-differs _ _ _ _ _ _ _ (left (c .before .before .before .before)) _ _ (stored (c .before)) (c .before .eight2 .ensures) (c .if1 .taken)
-
-add-x : tie.Need-add-x Inv-loop μ-loop
-add-x c = search needs
 
 loop-less : tie.Need-loop-less Inv-loop μ-loop
 loop-less c = search needs
@@ -74,13 +56,13 @@ same-row-spec =
     Inv-loop
     μ-loop
     loop-holds
-    eight-from-requires
-    add-eight
-    eight-requires
-    add-eight-2
-    eight-requires-2
+    (λ c κs. search needs)
+    (λ c. search needs)
+    (λ c κs. search needs)
+    (λ c. search needs)
+    (λ c κs. search needs)
     returns
-    add-x
+    (λ c. search needs)
     loop-less
     loop-again
     returns-2)

@@ -7,12 +7,6 @@ use Rattle.flip.specs.Flips.{turned}
 use Rattle.flip.proofs.turned.Statement.{statement}
 use Rattle.flip.proofs.turned.Tie as tie
 
-sub-result : tie.Need-sub-result
-sub-result c = search needs
-
-sub-result-2 : tie.Need-sub-result-2
-sub-result-2 c = search needs
-
 returns : tie.Need-returns
 returns c = (sym (ap (λ (b : Bool). turned b (c .before .args .n) (c .before .args .x)) (c .if1 .taken)), omega arith)
 
@@ -20,4 +14,4 @@ returns-2 : tie.Need-returns-2
 returns-2 c = search needs
 
 pub turned-spec : {M : Type 1} → statement M
-turned-spec = tie.close (tie.spec sub-result sub-result-2 returns returns-2)
+turned-spec = tie.close (tie.spec (λ c. search needs) (λ c. search needs) returns returns-2)

@@ -5,15 +5,6 @@ use borrow.Author.Needs.{needs}
 use Rattle.index.proofs.enter.Statement.{statement}
 use Rattle.index.proofs.enter.Tie as tie
 
-mul-put-tile : tie.Need-mul-put-tile
-mul-put-tile c = search needs
-
-put-tile-requires : tie.Need-put-tile-requires
-put-tile-requires c κs = search needs
-
-chain-requires : tie.Need-chain-requires
-chain-requires c κs = search needs
-
 returns : tie.Need-returns
 returns c =
     let e = c .chain .ensures in
@@ -25,4 +16,4 @@ returns c =
     (put .put-tile .ensures) (e .0) (e .1 .0) (e .1 .1)
 
 pub enter-spec : {M : Type 1} → statement M
-enter-spec = tie.close (tie.spec mul-put-tile put-tile-requires chain-requires returns)
+enter-spec = tie.close (tie.spec (λ c. search needs) (λ c κs. search needs) (λ c κs. search needs) returns)

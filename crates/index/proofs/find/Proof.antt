@@ -13,34 +13,13 @@ Inv-loop store keys heads next count tile q flips b l₀ found₀ l found = (b �
 abbrev μ-loop : tie.MeasureT-loop
 μ-loop store keys heads next count tile q flips b l₀ found₀ l found = l
 
-bucket-requires : tie.Need-bucket-requires Inv-loop μ-loop
-bucket-requires c κs = search needs
-
-mul-place : tie.Need-mul-place Inv-loop μ-loop
-mul-place c = search needs
-
-element-copy-out-place : tie.Need-element-copy-out-place Inv-loop μ-loop
-element-copy-out-place c = search needs
-
-place-requires : tie.Need-place-requires Inv-loop μ-loop
-place-requires c κs = search needs
-
 loop-holds : tie.Need-loop-holds Inv-loop μ-loop
 loop-holds c =
     let b = c .before .before .bucket in
     (b .ensures .0, search-start _ _ _ _ _ _ _ _ (c .before .before .before .pre) (b .result) (b .ensures .0) (b .ensures .1) (c .place .ensures))
 
-sub-k : tie.Need-sub-k Inv-loop μ-loop
-sub-k c = search needs
-
 match-at-requires : tie.Need-match-at-requires Inv-loop μ-loop
 match-at-requires c κs = search-look _ _ _ _ _ _ _ _ (c .before .before .before .before .before .pre) (c .before .loop .l - 1) (omega (arith, c .before .loop .inv .1 .low))
-
-over-requires : tie.Need-over-requires Inv-loop μ-loop
-over-requires c κs = search needs
-
-link-requires : tie.Need-link-requires Inv-loop μ-loop
-link-requires c κs = search needs
 
 loop-less : tie.Need-loop-less Inv-loop μ-loop
 loop-less c =
@@ -70,15 +49,15 @@ find-spec =
     (tie.spec
     Inv-loop
     μ-loop
-    bucket-requires
-    mul-place
-    element-copy-out-place
-    place-requires
+    (λ c κs. search needs)
+    (λ c. search needs)
+    (λ c. search needs)
+    (λ c κs. search needs)
     loop-holds
-    sub-k
+    (λ c. search needs)
     match-at-requires
-    over-requires
-    link-requires
+    (λ c κs. search needs)
+    (λ c κs. search needs)
     loop-less
     loop-again
     returns)

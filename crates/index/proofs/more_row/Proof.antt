@@ -6,27 +6,6 @@ use borrow.Author.Needs.{needs}
 use Rattle.index.proofs.more_row.Statement.{statement}
 use Rattle.index.proofs.more_row.Tie as tie
 
-mul-four : tie.Need-mul-four
-mul-four c = search needs
-
-four-requires : tie.Need-four-requires
-four-requires c κs = search needs
-
-more-requires : tie.Need-more-requires
-more-requires c κs = search needs
-
-mul-four-2 : tie.Need-mul-four-2
-mul-four-2 c = search needs
-
-add-four : tie.Need-add-four
-add-four c = search needs
-
-four-requires-2 : tie.Need-four-requires-2
-four-requires-2 c κs = search needs
-
-more-requires-2 : tie.Need-more-requires-2
-more-requires-2 c κs = search needs
-
 returns : tie.Need-returns
 returns c =
     let s = c .before .before .before .before in
@@ -40,11 +19,11 @@ pub more-row-spec : {M : Type 1} → statement M
 more-row-spec =
     tie.close
     (tie.spec
-    mul-four
-    four-requires
-    more-requires
-    mul-four-2
-    add-four
-    four-requires-2
-    more-requires-2
+    (λ c. search needs)
+    (λ c κs. search needs)
+    (λ c κs. search needs)
+    (λ c. search needs)
+    (λ c. search needs)
+    (λ c κs. search needs)
+    (λ c κs. search needs)
     returns)

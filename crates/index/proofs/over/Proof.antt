@@ -6,17 +6,8 @@ use Rattle.tileset.specs.Finding.{foundOr}
 use Rattle.index.proofs.over.Statement.{statement}
 use Rattle.index.proofs.over.Tie as tie
 
-enum-known-m : tie.Need-enum-known-m
-enum-known-m c = search needs
-
-enum-told : tie.Need-enum-told
-enum-told c = search needs
-
 returns : tie.Need-returns
 returns c = search needs
-
-cast-t5 : tie.Need-cast-t5
-cast-t5 c = search needs
 
 returns-2 : tie.Need-returns-2
 returns-2 c =
@@ -24,4 +15,4 @@ returns-2 c =
     sym (ap (λ (m : Match). foundOr m (a .k) (a .found)) (c .before .m .given .1))
 
 pub over-spec : {M : Type 1} → statement M
-over-spec = tie.close (tie.spec enum-known-m enum-told returns cast-t5 returns-2)
+over-spec = tie.close (tie.spec (λ c. search needs) (λ c. search needs) returns (λ c. search needs) returns-2)

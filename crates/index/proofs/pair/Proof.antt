@@ -15,29 +15,11 @@ abbrev μ-loop : tie.MeasureT-loop
 loop-holds : tie.Need-loop-holds Inv-loop μ-loop
 loop-holds c = record { most = search needs; plain = hash-none _; across = hash-none _; aSmall = search needs; bSmall = search needs }
 
-more-row-requires : tie.Need-more-row-requires Inv-loop μ-loop
-more-row-requires c κs = search needs
-
-more-row-requires-2 : tie.Need-more-row-requires-2 Inv-loop μ-loop
-more-row-requires-2 c κs = search needs
-
-add-y : tie.Need-add-y Inv-loop μ-loop
-add-y c = search needs
-
 loop-less : tie.Need-loop-less Inv-loop μ-loop
 loop-less c = search needs
 
 loop-again : tie.Need-loop-again Inv-loop μ-loop
 loop-again c = search needs
-
-mixed-requires : tie.Need-mixed-requires Inv-loop μ-loop
-mixed-requires c κs = search needs
-
-mixed-requires-2 : tie.Need-mixed-requires-2 Inv-loop μ-loop
-mixed-requires-2 c κs = search needs
-
-add-result : tie.Need-add-result Inv-loop μ-loop
-add-result c = search needs
 
 returns : tie.Need-returns Inv-loop μ-loop
 returns c =
@@ -53,12 +35,12 @@ pair-spec =
     Inv-loop
     μ-loop
     loop-holds
-    more-row-requires
-    more-row-requires-2
-    add-y
+    (λ c κs. search needs)
+    (λ c κs. search needs)
+    (λ c. search needs)
     loop-less
     loop-again
-    mixed-requires
-    mixed-requires-2
-    add-result
+    (λ c κs. search needs)
+    (λ c κs. search needs)
+    (λ c. search needs)
     returns)

@@ -18,12 +18,6 @@ returns-2 : tie.Need-returns-2
 unfolding entrySays
 returns-2 c = rw (le-ltb 15 _ (c .before .if1 .left), eq-eqb _ 10 (c .if2 .taken))
 
-first-misfit-requires : tie.Need-first-misfit-requires
-first-misfit-requires c κs = search needs
-
-misfit-says-requires : tie.Need-misfit-says-requires
-misfit-says-requires c κs = search needs
-
 returns-3 : tie.Need-returns-3
 unfolding entrySays
 returns-3 c =
@@ -33,4 +27,4 @@ returns-3 c =
 
 pub entry-says-spec : {M : Type 1} → statement M
 entry-says-spec =
-    tie.close (tie.spec returns returns-2 first-misfit-requires misfit-says-requires returns-3)
+    tie.close (tie.spec returns returns-2 (λ c κs. search needs) (λ c κs. search needs) returns-3)

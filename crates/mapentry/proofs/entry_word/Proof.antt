@@ -31,15 +31,6 @@ word-fits c =
     let s = c .before .before .before .before .before .before .before .before .before .before .before in
     word-small (s .args .m .0) (s .pre .mode) (s .args .e)
 
-places-of-requires : tie.Need-places-of-requires
-places-of-requires c κs = search needs
-
-low-requires : tie.Need-low-requires
-low-requires c κs = search needs
-
-down-requires : tie.Need-down-requires
-down-requires c κs = search needs
-
 up-requires : tie.Need-up-requires
 up-requires c κs =
     let near = c .before .before .places-of .ensures .1 in
@@ -49,24 +40,6 @@ up-requires-2 : tie.Need-up-requires-2
 up-requires-2 c κs =
     let near = c .before .before .before .places-of .ensures .1 in
     (omega (arith, palette-small _ _ (c .before .before .before .before .pre)), near .palette)
-
-flag-requires : tie.Need-flag-requires
-flag-requires c κs = search needs
-
-up-requires-3 : tie.Need-up-requires-3
-up-requires-3 c κs = search needs
-
-flag-requires-2 : tie.Need-flag-requires-2
-flag-requires-2 c κs = search needs
-
-up-requires-4 : tie.Need-up-requires-4
-up-requires-4 c κs = search needs
-
-flag-requires-3 : tie.Need-flag-requires-3
-flag-requires-3 c κs = search needs
-
-up-requires-5 : tie.Need-up-requires-5
-up-requires-5 c κs = search needs
 
 add-result : tie.Need-add-result
 add-result c = omega (arith, total c, word-fits c)
@@ -90,17 +63,17 @@ pub entry-word-spec : {M : Type 1} → statement M
 entry-word-spec =
     tie.close
     (tie.spec
-    places-of-requires
-    low-requires
-    down-requires
+    (λ c κs. search needs)
+    (λ c κs. search needs)
+    (λ c κs. search needs)
     up-requires
     up-requires-2
-    flag-requires
-    up-requires-3
-    flag-requires-2
-    up-requires-4
-    flag-requires-3
-    up-requires-5
+    (λ c κs. search needs)
+    (λ c κs. search needs)
+    (λ c κs. search needs)
+    (λ c κs. search needs)
+    (λ c κs. search needs)
+    (λ c κs. search needs)
     add-result
     add-result-2
     add-result-3

@@ -9,17 +9,8 @@ use borrow.Author.Needs.{needs}
 use Rattle.mapentry.proofs.get_attribute.Statement.{statement}
 use Rattle.mapentry.proofs.get_attribute.Tie as tie
 
-entry-says-requires : tie.Need-entry-says-requires
-entry-says-requires c κs = search needs
-
-no-number-requires : tie.Need-no-number-requires
-no-number-requires c κs = search needs
-
 returns : tie.Need-returns
 returns c = c .no-number .ensures ∙ refused-number (c .before .before .entry-says .result) (attributeOf (c .before .before .before .args .mode) (c .before .before .before .args .e)) (c .before .before .entry-says .ensures) (c .before .if1 .taken)
-
-without-tile-requires : tie.Need-without-tile-requires
-without-tile-requires c κs = search needs
 
 entry-word-requires : tie.Need-entry-word-requires
 entry-word-requires c κs =
@@ -36,9 +27,9 @@ pub get-attribute-spec : {M : Type 1} → statement M
 get-attribute-spec =
     tie.close
     (tie.spec
-    entry-says-requires
-    no-number-requires
+    (λ c κs. search needs)
+    (λ c κs. search needs)
     returns
-    without-tile-requires
+    (λ c κs. search needs)
     entry-word-requires
     returns-2)

@@ -6,19 +6,10 @@ use borrow.Author.Needs.{needs}
 use Rattle.mapentry.proofs.get_entry.Statement.{statement}
 use Rattle.mapentry.proofs.get_entry.Tie as tie
 
-mapentry-size-requires : tie.Need-mapentry-size-requires
-mapentry-size-requires c κs = search needs
-
-most-first-requires : tie.Need-most-first-requires
-most-first-requires c κs = search needs
-
 get-word-requires : tie.Need-get-word-requires
 get-word-requires c κs =
     let s = c .before .before .before in
     (omega (arith, c .before .mapentry-size .ensures), omega (arith, c .before .mapentry-size .ensures), omega (arith, c .before .mapentry-size .ensures, small (s .args .m .0) (s .pre .0) .entry))
-
-entry-in-requires : tie.Need-entry-in-requires
-entry-in-requires c κs = search needs
 
 returns : tie.Need-returns
 returns c = c .entry-in .ensures ∙ rw (c .before .get-word .ensures .0, c .before .before .before .mapentry-size .ensures, c .before .before .most-first .ensures)
@@ -27,8 +18,8 @@ pub get-entry-spec : {M : Type 1} → statement M
 get-entry-spec =
     tie.close
     (tie.spec
-    mapentry-size-requires
-    most-first-requires
+    (λ c κs. search needs)
+    (λ c κs. search needs)
     get-word-requires
-    entry-in-requires
+    (λ c κs. search needs)
     returns)

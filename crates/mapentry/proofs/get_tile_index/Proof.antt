@@ -15,12 +15,6 @@ use borrow.Author.Needs.{needs}
 use Rattle.mapentry.proofs.get_tile_index.Statement.{statement}
 use Rattle.mapentry.proofs.get_tile_index.Tie as tie
 
-entry-says-requires : tie.Need-entry-says-requires
-entry-says-requires c κs = search needs
-
-refused-requires : tie.Need-refused-requires
-refused-requires c κs = search needs
-
 returns : tie.Need-returns
 unfolding indexSays
 returns c =
@@ -30,9 +24,6 @@ returns c =
 
 index-size-requires : tie.Need-index-size-requires
 index-size-requires c κs = is-entry (c .before .before .before .args .mode) (c .before .before .before .args .e) (sym (c .before .entry-says .ensures) ∙ c .if1 .left) .mode
-
-refused-requires-2 : tie.Need-refused-requires-2
-refused-requires-2 c κs = search needs
 
 returns-2 : tie.Need-returns-2
 unfolding indexSays
@@ -45,9 +36,6 @@ put-word-requires : tie.Need-put-word-requires
 put-word-requires c κs =
     let few = index-small (c .before .before .before .before .before .before .args .mode) in
     (omega arith, omega (arith, c .before .before .index-size .ensures, few .0), omega (arith, c .before .before .index-size .ensures, few .1))
-
-same-length : tie.Need-same-length
-same-length c = search needs
 
 returns-3 : tie.Need-returns-3
 unfolding indexSays
@@ -63,12 +51,12 @@ pub get-tile-index-spec : {M : Type 1} → statement M
 get-tile-index-spec =
     tie.close
     (tie.spec
-    entry-says-requires
-    refused-requires
+    (λ c κs. search needs)
+    (λ c κs. search needs)
     returns
     index-size-requires
-    refused-requires-2
+    (λ c κs. search needs)
     returns-2
     put-word-requires
-    same-length
+    (λ c. search needs)
     returns-3)

@@ -19,12 +19,6 @@ use Rattle.mapentry.proofs.pack_mapentry.Tie as tie
 passes : (c : tie.Else1) → IsEntry (c .before .before .before .args .mode) (c .before .before .before .args .e)
 passes c = is-entry (c .before .before .before .args .mode) (c .before .before .before .args .e) (sym (c .before .entry-says .ensures) ∙ c .if1 .left)
 
-entry-says-requires : tie.Need-entry-says-requires
-entry-says-requires c κs = search needs
-
-refused-requires : tie.Need-refused-requires
-refused-requires c κs = search needs
-
 returns : tie.Need-returns
 unfolding packSays
 returns c =
@@ -35,9 +29,6 @@ returns c =
 mapentry-size-requires : tie.Need-mapentry-size-requires
 mapentry-size-requires c κs = passes c .mode
 
-refused-requires-2 : tie.Need-refused-requires-2
-refused-requires-2 c κs = search needs
-
 returns-2 : tie.Need-returns-2
 unfolding packSays
 returns-2 c =
@@ -47,9 +38,6 @@ returns-2 c =
 
 put-entry-requires : tie.Need-put-entry-requires
 put-entry-requires c κs = (passes (c .before .before .before), omega (arith, c .before .before .mapentry-size .ensures))
-
-same-length : tie.Need-same-length
-same-length c = search needs
 
 returns-3 : tie.Need-returns-3
 unfolding packSays
@@ -65,12 +53,12 @@ pub pack-mapentry-spec : {M : Type 1} → statement M
 pack-mapentry-spec =
     tie.close
     (tie.spec
-    entry-says-requires
-    refused-requires
+    (λ c κs. search needs)
+    (λ c κs. search needs)
     returns
     mapentry-size-requires
-    refused-requires-2
+    (λ c κs. search needs)
     returns-2
     put-entry-requires
-    same-length
+    (λ c. search needs)
     returns-3)

@@ -6,24 +6,12 @@ use borrow.Author.Needs.{needs}
 use Rattle.mapentry.proofs.put_entry.Statement.{statement}
 use Rattle.mapentry.proofs.put_entry.Tie as tie
 
-entry-word-requires : tie.Need-entry-word-requires
-entry-word-requires c κs = search needs
-
-mapentry-size-requires : tie.Need-mapentry-size-requires
-mapentry-size-requires c κs = search needs
-
-most-first-requires : tie.Need-most-first-requires
-most-first-requires c κs = search needs
-
 put-word-requires : tie.Need-put-word-requires
 put-word-requires c κs =
     let s = c .before .before .before .before .before in
     let m = s .args .m .0 in
     let e = s .pre .0 in
     (omega (arith, c .before .mapentry-size .ensures), omega (arith, c .before .mapentry-size .ensures, some-byte m (e .mode) (e .map)), omega (arith, c .before .mapentry-size .ensures, small m (e .mode) .entry))
-
-same-length : tie.Need-same-length
-same-length c = search needs
 
 returns : tie.Need-returns
 returns c = c .before .before .put-word .ensures ∙ rw (c .before .before .before .before .mapentry-size .ensures, c .before .before .before .most-first .ensures, c .before .before .before .before .before .before .entry-word .ensures .0)
@@ -32,9 +20,9 @@ pub put-entry-spec : {M : Type 1} → statement M
 put-entry-spec =
     tie.close
     (tie.spec
-    entry-word-requires
-    mapentry-size-requires
-    most-first-requires
+    (λ c κs. search needs)
+    (λ c κs. search needs)
+    (λ c κs. search needs)
     put-word-requires
-    same-length
+    (λ c. search needs)
     returns)

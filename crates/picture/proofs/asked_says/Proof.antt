@@ -44,9 +44,6 @@ module _ (c : tie.Else4) where
   fits : misfitSays (misfitOf (of .mode) (entryAs 0 (of .palette) false false)) ≡ 0
   fits = sym (c .before .palette-says .ensures) ∙ c .if4 .left
 
-size-says-requires : tie.Need-size-says-requires
-size-says-requires c κs = search needs
-
 returns : tie.Need-returns
 returns c = asked-size (c .before .before .args .settings) _ _ (c .before .size-says .result) (c .before .size-says .ensures) (c .if1 .taken)
 
@@ -100,7 +97,7 @@ pub asked-says-spec : {M : Type 1} → statement M
 asked-says-spec =
     tie.close
     (tie.spec
-    size-says-requires
+    (λ c κs. search needs)
     returns
     lacks-flips-requires
     returns-2

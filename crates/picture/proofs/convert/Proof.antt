@@ -36,12 +36,6 @@ module _ (c : tie.After-picture-room) where
   most : c .picture-room .result ≤ 4096
   most = omega (arith, c .picture-room .ensures, room-most (begun .args .settings) (length (now (begun .args .tiles))) (sized (c .before) .mode))
 
-asked-says-requires : tie.Need-asked-says-requires
-asked-says-requires c κs = search needs
-
-no-picture-requires : tie.Need-no-picture-requires
-no-picture-requires c κs = search needs
-
 returns : tie.Need-returns
 returns c =
     let a = c .before .before .asked-says in
@@ -68,15 +62,6 @@ gather-requires c κs =
       long = length-replicate {A = ℕ} 4096 0;
     }
 
-enum-known-count : tie.Need-enum-known-count
-enum-known-count c = search needs
-
-enum-told : tie.Need-enum-told
-enum-told c = search needs
-
-no-picture-requires-2 : tie.Need-no-picture-requires-2
-no-picture-requires-2 c κs = search needs
-
 returns-2 : tie.Need-returns-2
 returns-2 c =
     let r = c .before .before .before .before .before .before .before .before .before .before in
@@ -93,12 +78,6 @@ put-picture-requires c κs =
     puts-picture g (picture (r .before)) (few-tiles (sized (r .before))) (omega (arith, r .picture-room .ensures, room-named (a .settings) (length (now (a .tiles)))))
     (room-bytes (a .settings) (length (now (a .tiles))) (sized (r .before) .shallow) (omega (arith, g .within, r .picture-room .ensures))) (asked-map _ _ _ (none (r .before)))
 
-same-length : tie.Need-same-length
-same-length c = search needs
-
-same-length-2 : tie.Need-same-length-2
-same-length-2 c = search needs
-
 returns-3 : tie.Need-returns-3
 returns-3 c =
     let p = c .before .before .before .before .before in
@@ -113,18 +92,18 @@ pub convert-spec : {M : Type 1} → statement M
 convert-spec =
     tie.close
     (tie.spec
-    asked-says-requires
-    no-picture-requires
+    (λ c κs. search needs)
+    (λ c κs. search needs)
     returns
     picture-room-requires
     mul-end
     cast-end
     gather-requires
-    enum-known-count
-    enum-told
-    no-picture-requires-2
+    (λ c. search needs)
+    (λ c. search needs)
+    (λ c κs. search needs)
     returns-2
     put-picture-requires
-    same-length
-    same-length-2
+    (λ c. search needs)
+    (λ c. search needs)
     returns-3)

@@ -8,10 +8,9 @@ use lib.ListN.{length}
 use lib.Seq.{sets, length-sets}
 use denote.Ref.{now}
 use Rattle.words.specs.Answers.{overwrite}
-use Rattle.words.proofs.Filling.{Filled, filled-none, filled-front}
+use Rattle.words.proofs.Filling.{Filled, filled-none, filled-front, filled-next}
 use Rattle.words.proofs.Items.{item-inside}
 use Rattle.picture.specs.Inner.{stripOf}
-use Rattle.picture.proofs.Cells.{filled-next}
 use Rattle.picture.proofs.Drawing.{rowDrawn, row-length, lines-are, rows-are, strip-asks, row-space}
 use borrow.Author.Needs.{needs}
 use Rattle.picture.proofs.draw.Statement.{statement}
@@ -52,16 +51,10 @@ loop-holds c = (omega arith, filled-none _ _ _, refl)
 mul-draw-strip : tie.Need-mul-draw-strip Inv-loop μ-loop
 mul-draw-strip c = let a = start c .args in omega (arith, item-inside (a .columns) (a .rows) (c .before .loop .y) (c .loop-test .taken), mul-comm (a .columns) (a .rows), few (start c))
 
-slice-aggregate-draw-strip : tie.Need-slice-aggregate-draw-strip Inv-loop μ-loop
-slice-aggregate-draw-strip c = search needs
-
 draw-strip-requires : tie.Need-draw-strip-requires Inv-loop μ-loop
 draw-strip-requires c κs =
     let t = c .before in
     strip-asks (start t .pre) (t .before .loop .y) (t .loop-test .taken) (omega (arith, start t .pre .narrow, t .before .loop .inv .2)) (few (start t))
-
-slice-aggregate-put-lines : tie.Need-slice-aggregate-put-lines Inv-loop μ-loop
-slice-aggregate-put-lines c = search needs
 
 mul-put-lines : tie.Need-mul-put-lines Inv-loop μ-loop
 mul-put-lines c = omega (arith, start (c .before .before .before .before .before) .pre .narrow)
@@ -81,9 +74,6 @@ put-lines-requires c κs =
       long = omega (arith, still (c .before .before .before), p .narrow);
       space = omega (arith, space t, p .space, t .before .loop .inv .1 .long);
     }
-
-add-y : tie.Need-add-y Inv-loop μ-loop
-add-y c = search needs
 
 loop-less : tie.Need-loop-less Inv-loop μ-loop
 loop-less c = search needs
@@ -122,14 +112,14 @@ draw-spec =
     μ-loop
     loop-holds
     mul-draw-strip
-    slice-aggregate-draw-strip
+    (λ c. search needs)
     draw-strip-requires
-    slice-aggregate-put-lines
+    (λ c. search needs)
     mul-put-lines
     mul-put-lines-2
     mul-put-lines-3
     put-lines-requires
-    add-y
+    (λ c. search needs)
     loop-less
     loop-again
     same-length

@@ -5,14 +5,13 @@ use native.Mathlib.Omega.{arith}
 use lib.ListN.{length}
 use lib.Seq.{sets}
 use denote.Ref.{now}
-use Rattle.words.proofs.Filling.{Filled, filled-none, filled-all}
+use Rattle.words.proofs.Filling.{Filled, filled-none, filled-all, filled-next}
 use Rattle.words.proofs.Items.{item-inside}
 use Rattle.mode.specs.Table.{row}
 use Rattle.mapentry.specs.declared.Mapentry.{Mapentry}
 use Rattle.mapentry.proofs.Laws.{some-byte}
 use Rattle.picture.specs.Entries.{tileNamed}
 use Rattle.picture.specs.Redrawing.{entryAt, drawnTile}
-use Rattle.picture.proofs.Cells.{filled-next}
 use Rattle.picture.proofs.Drawing.{drawn-length, entry-read}
 use borrow.Author.Needs.{needs}
 use Rattle.picture.proofs.draw_strip.Statement.{statement}
@@ -78,9 +77,6 @@ draw-tile-requires c κs =
       space = omega (arith, s .pre .space, t .loop-test .taken, t .before .loop .inv .1 .long);
     }
 
-add-x : tie.Need-add-x Inv-loop μ-loop
-add-x c = search needs
-
 loop-less : tie.Need-loop-less Inv-loop μ-loop
 loop-less c = search needs
 
@@ -113,7 +109,7 @@ draw-strip-spec =
     get-entry-requires
     mul-draw-tile
     draw-tile-requires
-    add-x
+    (λ c. search needs)
     loop-less
     loop-again
     same-length

@@ -28,12 +28,6 @@ module _ (c : tie.After-tile-named) where
 packing-of-requires : tie.Need-packing-of-requires
 packing-of-requires c κs = c .before .before .pre .mode
 
-tile-named-requires : tie.Need-tile-named-requires
-tile-named-requires c κs = search needs
-
-cast-from : tie.Need-cast-from
-cast-from c = search needs
-
 mul-from : tie.Need-mul-from
 mul-from c = omega (arith, deep (c .before))
 
@@ -43,22 +37,10 @@ cast-from-2 c = omega (arith, deep (c .before))
 mul-from-2 : tie.Need-mul-from-2
 mul-from-2 c = omega (arith, inside (c .before))
 
-slice-aggregate-put-pixels : tie.Need-slice-aggregate-put-pixels
-slice-aggregate-put-pixels c = search needs
-
 put-pixels-requires : tie.Need-put-pixels-requires
 put-pixels-requires c κs =
     let n = c .before .before in
     unpacks-at (n .before .packing-of .ensures) (tiled (start n)) _ _ _ (inside n) refl
-
-slice-aggregate-put-flipped : tie.Need-slice-aggregate-put-flipped
-slice-aggregate-put-flipped c = search needs
-
-put-flipped-requires : tie.Need-put-flipped-requires
-put-flipped-requires c κs = search needs
-
-same-length : tie.Need-same-length
-same-length c = search needs
 
 returns : tie.Need-returns
 returns c =
@@ -75,14 +57,14 @@ draw-tile-spec =
     tie.close
     (tie.spec
     packing-of-requires
-    tile-named-requires
-    cast-from
+    (λ c κs. search needs)
+    (λ c. search needs)
     mul-from
     cast-from-2
     mul-from-2
-    slice-aggregate-put-pixels
+    (λ c. search needs)
     put-pixels-requires
-    slice-aggregate-put-flipped
-    put-flipped-requires
-    same-length
+    (λ c. search needs)
+    (λ c κs. search needs)
+    (λ c. search needs)
     returns)

@@ -26,9 +26,6 @@ turn c = c .before .before .before .before .before .before .before .before .befo
 below : (c : tie.After-known-told Inv-loop μ-loop) → (turn c .before .loop .i) ≤ 4095
 below c = omega (arith, few (turn c .before .before .before .before), turn c .loop-test .taken)
 
-cast-columns : tie.Need-cast-columns Inv-loop μ-loop
-cast-columns c = search needs
-
 loop-holds : tie.Need-loop-holds Inv-loop μ-loop
 loop-holds c = gather-none (c .before .before .pre)
 
@@ -39,12 +36,6 @@ keep-tile-requires : tie.Need-keep-tile-requires Inv-loop μ-loop
 keep-tile-requires c κs =
     let t = c .before .before .before .before .before .before in
     gather-asks _ _ _ _ (t .before .loop .inv) (t .loop-test .taken) (c .before .before .before .before .before .take-tile .ensures) (t .before .before .before .before .pre .most)
-
-enum-known-more : tie.Need-enum-known-more Inv-loop μ-loop
-enum-known-more c = search needs
-
-enum-told : tie.Need-enum-told Inv-loop μ-loop
-enum-told c = search needs
 
 returns : tie.Need-returns Inv-loop μ-loop
 returns c =
@@ -81,12 +72,12 @@ gather-spec =
     (tie.spec
     Inv-loop
     μ-loop
-    cast-columns
+    (λ c. search needs)
     loop-holds
     take-tile-requires
     keep-tile-requires
-    enum-known-more
-    enum-told
+    (λ c. search needs)
+    (λ c. search needs)
     returns
     mul-codes
     element-write-codes

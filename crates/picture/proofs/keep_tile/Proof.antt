@@ -19,27 +19,6 @@ there : (c : tie.After-known-told) → let a = start-found c .args in
     lookUp (a .flips) 8 8 (tilesIn 64 (now (a .store)) (a .count)) (now (a .tile)) ≡ At (c .before .found .given .0 .0) (c .before .found .given .0 .1 .0)
 there c = sym (c .before .before .before .find .ensures) ∙ c .before .found .given .1
 
-key-requires : tie.Need-key-requires
-key-requires c κs = search needs
-
-find-requires : tie.Need-find-requires
-find-requires c κs = search needs
-
-enum-known-found : tie.Need-enum-known-found
-enum-known-found c = search needs
-
-enum-told : tie.Need-enum-told
-enum-told c = search needs
-
-cast-t20 : tie.Need-cast-t20
-cast-t20 c = search needs
-
-code-requires : tie.Need-code-requires
-code-requires c κs = search needs
-
-store-tile-requires : tie.Need-store-tile-requires
-store-tile-requires c κs = search needs
-
 returns : tie.Need-returns
 returns c =
     let told = c .before .before .before .before .before .before in
@@ -72,13 +51,13 @@ pub keep-tile-spec : {M : Type 1} → statement M
 keep-tile-spec =
     tie.close
     (tie.spec
-    key-requires
-    find-requires
-    enum-known-found
-    enum-told
-    cast-t20
-    code-requires
-    store-tile-requires
+    (λ c κs. search needs)
+    (λ c κs. search needs)
+    (λ c. search needs)
+    (λ c. search needs)
+    (λ c. search needs)
+    (λ c κs. search needs)
+    (λ c κs. search needs)
     returns
     code-requires-2
     returns-2

@@ -12,9 +12,6 @@ use Rattle.picture.proofs.lacks_flips.Tie as tie
 returns : tie.Need-returns
 returns c = let a = c .before .args in sym (ap (λ (b : Bool). b && eqb (row (a .m .0) .flips) 0) (not-true (a .flip) (c .if1 .taken)))
 
-flip-bits-requires : tie.Need-flip-bits-requires
-flip-bits-requires c κs = search needs
-
 returns-2 : tie.Need-returns-2
 returns-2 c =
     let a = c .before .before .args in
@@ -22,4 +19,4 @@ returns-2 c =
     ∙ sym (ap (λ (b : Bool). b && eqb (row (a .m .0) .flips) 0) (not-false (a .flip) (c .before .if1 .left)))
 
 pub lacks-flips-spec : {M : Type 1} → statement M
-lacks-flips-spec = tie.close (tie.spec returns flip-bits-requires returns-2)
+lacks-flips-spec = tie.close (tie.spec returns (λ c κs. search needs) returns-2)

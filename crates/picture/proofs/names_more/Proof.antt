@@ -66,20 +66,11 @@ mul-get-entry c = omega (arith, entry-inside c)
 get-entry-requires : tie.Need-get-entry-requires Inv-loop μ-loop
 get-entry-requires c κs = let s = c .before .before .before .before in (s .pre .mode, s .pre .some, entry-inside c)
 
-tile-named-requires : tie.Need-tile-named-requires Inv-loop μ-loop
-tile-named-requires c κs = search needs
-
-cast-if1 : tie.Need-cast-if1 Inv-loop μ-loop
-cast-if1 c = search needs
-
 returns : tie.Need-returns Inv-loop μ-loop
 returns c =
     let n = c .before .before in
     let a = start n .args in
     sym (some-true (a .count) (λ i. leb (a .tiles) (named n i)) (at n) (turn n .loop-test .taken) (le-leb (a .tiles) (named n (at n)) (omega (arith, c .if1 .taken, named-is n))))
-
-add-i : tie.Need-add-i Inv-loop μ-loop
-add-i c = search needs
 
 loop-less : tie.Need-loop-less Inv-loop μ-loop
 loop-less c = search needs
@@ -106,10 +97,10 @@ names-more-spec =
     loop-holds
     mul-get-entry
     get-entry-requires
-    tile-named-requires
-    cast-if1
+    (λ c κs. search needs)
+    (λ c. search needs)
     returns
-    add-i
+    (λ c. search needs)
     loop-less
     loop-again
     returns-2)

@@ -10,29 +10,11 @@ use borrow.Author.Needs.{needs}
 use Rattle.picture.proofs.picture_room.Statement.{statement}
 use Rattle.picture.proofs.picture_room.Tie as tie
 
-most-tiles-requires : tie.Need-most-tiles-requires
-most-tiles-requires c κs = search needs
-
-mul-least : tie.Need-mul-least
-mul-least c = search needs
-
-cast-least : tie.Need-cast-least
-cast-least c = search needs
-
-div-least : tie.Need-div-least
-div-least c = search needs
-
-least-requires : tie.Need-least-requires
-least-requires c κs = search needs
-
 -- the least without the limit
 most : (c : tie.After-least) → let a = c .before .before .before .args in c .least .result ≡ min (2 ^ row (a .settings .mode) .tile) (a .len / (a .settings .depth * 8))
 most c =
     let a = c .before .before .before .args in
     c .least .ensures ∙ ap (λ (k : ℕ). min k (a .len / (a .settings .depth * 8))) (c .before .before .most-tiles .ensures)
-
-room-requires : tie.Need-room-requires
-room-requires c κs = search needs
 
 returns : tie.Need-returns
 unfolding pictureRoom
@@ -44,4 +26,4 @@ returns c =
 
 pub picture-room-spec : {M : Type 1} → statement M
 picture-room-spec =
-    tie.close (tie.spec most-tiles-requires mul-least cast-least div-least least-requires room-requires returns)
+    tie.close (tie.spec (λ c κs. search needs) (λ c. search needs) (λ c. search needs) (λ c. search needs) (λ c κs. search needs) (λ c κs. search needs) returns)

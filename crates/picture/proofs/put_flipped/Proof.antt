@@ -22,20 +22,11 @@ abbrev μ-loop : tie.MeasureT-loop
 loop-holds : tie.Need-loop-holds Inv-loop μ-loop
 loop-holds c = (omega arith, filled-none _ _ _)
 
-flip-at-requires : tie.Need-flip-at-requires Inv-loop μ-loop
-flip-at-requires c κs = search needs
-
 shared-slice-read-out : tie.Need-shared-slice-read-out Inv-loop μ-loop
 shared-slice-read-out c = omega (arith, c .before .flip-at .ensures .1, c .before .before .before .before .before .before .pre .0)
 
-add-out : tie.Need-add-out Inv-loop μ-loop
-add-out c = search needs
-
 slice-write-out : tie.Need-slice-write-out Inv-loop μ-loop
 slice-write-out c = omega (arith, c .before .before .before .loop .inv .1 .long, c .before .before .before .before .before .before .pre .1, c .before .before .loop-test .taken)
-
-add-i : tie.Need-add-i Inv-loop μ-loop
-add-i c = search needs
 
 loop-less : tie.Need-loop-less Inv-loop μ-loop
 loop-less c = search needs
@@ -66,11 +57,11 @@ put-flipped-spec =
     Inv-loop
     μ-loop
     loop-holds
-    flip-at-requires
+    (λ c κs. search needs)
     shared-slice-read-out
-    add-out
+    (λ c. search needs)
     slice-write-out
-    add-i
+    (λ c. search needs)
     loop-less
     loop-again
     same-length

@@ -7,8 +7,8 @@ use lib.ListN.{getD}
 use lib.Seq.{sets}
 use denote.Ref.{now}
 use Rattle.words.specs.Loops.{each}
-use Rattle.picture.proofs.Cells.{length-ones}
 use Rattle.words.proofs.Filling.{Filled, filled-none, filled-more, filled-all}
+use Rattle.words.proofs.Items.{length-ones}
 use Rattle.picture.proofs.Drawing.{row-whole}
 use borrow.Author.Needs.{needs}
 use Rattle.picture.proofs.put_line.Statement.{statement}
@@ -43,9 +43,6 @@ put-eight-requires c κs =
     let p = c .before .before .before .before .before .pre in
     (omega arith, omega (arith, p .0, p .1 .long, c .before .loop-test .taken), omega (arith, p .1 .space, c .before .loop-test .taken, c .before .before .loop .inv .1 .long))
 
-add-x : tie.Need-add-x Inv-loop μ-loop
-add-x c = search needs
-
 loop-less : tie.Need-loop-less Inv-loop μ-loop
 loop-less c = search needs
 
@@ -79,7 +76,7 @@ put-line-spec =
     mul-put-eight-3
     add-put-eight-2
     put-eight-requires
-    add-x
+    (λ c. search needs)
     loop-less
     loop-again
     same-length

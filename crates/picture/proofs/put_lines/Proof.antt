@@ -43,9 +43,6 @@ put-line-requires c κs =
     let p = start t .pre in
     (t .loop-test .taken, record { narrow = p .narrow; long = p .long; space = omega (arith, space t, t .before .loop .inv .1 .long) })
 
-add-y : tie.Need-add-y Inv-loop μ-loop
-add-y c = search needs
-
 loop-less : tie.Need-loop-less Inv-loop μ-loop
 loop-less c = search needs
 
@@ -72,7 +69,7 @@ put-lines-spec =
     mul-put-line-2
     add-put-line
     put-line-requires
-    add-y
+    (λ c. search needs)
     loop-less
     loop-again
     same-length

@@ -5,13 +5,12 @@ use native.Mathlib.Omega.{arith}
 use lib.ListN.{length, getD}
 use lib.Seq.{sets}
 use denote.Ref.{now}
-use Rattle.words.proofs.Filling.{Filled, filled-none, filled-front}
+use Rattle.words.proofs.Filling.{Filled, filled-none, filled-front, filled-next}
 use Rattle.words.proofs.Items.{item-inside}
 use Rattle.mode.specs.Table.{row}
 use Rattle.mapentry.specs.Entry.{entryBytes, IsEntry}
 use Rattle.mapentry.specs.declared.Mapentry.{Mapentry}
 use Rattle.picture.specs.Inner.{entryCoded}
-use Rattle.picture.proofs.Cells.{filled-next}
 use Rattle.picture.proofs.Converted.{entry-size}
 use borrow.Author.Needs.{needs}
 use Rattle.picture.proofs.put_map.Statement.{statement}
@@ -43,15 +42,6 @@ mapentry-size-requires c κs = c .before .pre .mode
 loop-holds : tie.Need-loop-holds Inv-loop μ-loop
 loop-holds c = (omega arith, filled-none _ _ _)
 
-mul-entry-coded : tie.Need-mul-entry-coded Inv-loop μ-loop
-mul-entry-coded c = search needs
-
-element-copy-out-entry-coded : tie.Need-element-copy-out-entry-coded Inv-loop μ-loop
-element-copy-out-entry-coded c = search needs
-
-entry-coded-requires : tie.Need-entry-coded-requires Inv-loop μ-loop
-entry-coded-requires c κs = search needs
-
 mul-put-entry : tie.Need-mul-put-entry Inv-loop μ-loop
 mul-put-entry c = omega (arith, space (c .before .before .before))
 
@@ -62,9 +52,6 @@ put-entry-requires c κs =
       subst (λ (e : Mapentry). IsEntry (s .args .mode) e) (sym (c .before .entry-coded .ensures)) (s .pre .entries (t .before .loop .i) (t .loop-test .taken)),
       omega (arith, space t, t .before .loop .inv .1 .long),
     )
-
-add-i : tie.Need-add-i Inv-loop μ-loop
-add-i c = search needs
 
 loop-less : tie.Need-loop-less Inv-loop μ-loop
 loop-less c = search needs
@@ -83,9 +70,6 @@ loop-again c =
           ∙ ap (λ (e : Mapentry). sets (lp .map) (lp .i * row m .entry) (entryBytes m e)) (entry .ensures)),
     )
 
-same-length : tie.Need-same-length Inv-loop μ-loop
-same-length c = search needs
-
 returns : tie.Need-returns Inv-loop μ-loop
 returns c = let s = c .before .before .before .before in filled-front (row (s .args .mode) .entry) (s .args .count) (size-is s) (c .before .loop .inv .1) (omega arith) (s .pre .space)
 
@@ -97,13 +81,13 @@ put-map-spec =
     μ-loop
     mapentry-size-requires
     loop-holds
-    mul-entry-coded
-    element-copy-out-entry-coded
-    entry-coded-requires
+    (λ c. search needs)
+    (λ c. search needs)
+    (λ c κs. search needs)
     mul-put-entry
     put-entry-requires
-    add-i
+    (λ c. search needs)
     loop-less
     loop-again
-    same-length
+    (λ c. search needs)
     returns)

@@ -1,5 +1,5 @@
 -- Both buffers are put, and counted.
-use mathlib.Core.Path.{ap, _∙_}
+use mathlib.Core.Path.{ap}
 use Prim.Native.Nat.{ℕ, _≤_, _*_, _-_}
 use native.Mathlib.Nat.{mul-le-mul}
 use native.Mathlib.Omega.{arith}
@@ -9,38 +9,8 @@ use borrow.Author.Needs.{needs}
 use Rattle.picture.proofs.put_picture.Statement.{statement}
 use Rattle.picture.proofs.put_picture.Tie as tie
 
-mul-places : tie.Need-mul-places
-mul-places c = search needs
-
-cast-places : tie.Need-cast-places
-cast-places c = search needs
-
 mul-size : tie.Need-mul-size
 mul-size c = omega (arith, c .before .before .before .before .pre .deep)
-
-cast-size : tie.Need-cast-size
-cast-size c = search needs
-
-mapentry-size-requires : tie.Need-mapentry-size-requires
-mapentry-size-requires c κs = search needs
-
-put-tiles-requires : tie.Need-put-tiles-requires
-put-tiles-requires c κs = search needs
-
-put-map-requires : tie.Need-put-map-requires
-put-map-requires c κs = search needs
-
-cast-t10 : tie.Need-cast-t10
-cast-t10 c = search needs
-
-sub-t17 : tie.Need-sub-t17
-sub-t17 c = search needs
-
-cast-t18 : tie.Need-cast-t18
-cast-t18 c = search needs
-
-mul-t19 : tie.Need-mul-t19
-mul-t19 c = search needs
 
 mul-t20 : tie.Need-mul-t20
 mul-t20 c =
@@ -48,12 +18,6 @@ mul-t20 c =
     let size = c .before .before .before .before .before .before .before .before .mapentry-size in
     let two : size .result ≤ 2 = omega (arith, size .ensures, small (s .args .settings .mode) (s .pre .asTiles .mode) .entry) in
     omega (arith, mul-le-mul {n₁ = places (s .args .settings)} {m₁ = size .result} {n₂ = 4096} {m₂ = 2} (s .pre .few) two)
-
-same-length : tie.Need-same-length
-same-length c = search needs
-
-same-length-2 : tie.Need-same-length-2
-same-length-2 c = search needs
 
 returns : tie.Need-returns
 returns c =
@@ -69,18 +33,18 @@ pub put-picture-spec : {M : Type 1} → statement M
 put-picture-spec =
     tie.close
     (tie.spec
-    mul-places
-    cast-places
+    (λ c. search needs)
+    (λ c. search needs)
     mul-size
-    cast-size
-    mapentry-size-requires
-    put-tiles-requires
-    put-map-requires
-    cast-t10
-    sub-t17
-    cast-t18
-    mul-t19
+    (λ c. search needs)
+    (λ c κs. search needs)
+    (λ c κs. search needs)
+    (λ c κs. search needs)
+    (λ c. search needs)
+    (λ c. search needs)
+    (λ c. search needs)
+    (λ c. search needs)
     mul-t20
-    same-length
-    same-length-2
+    (λ c. search needs)
+    (λ c. search needs)
     returns)

@@ -6,12 +6,11 @@ use native.Mathlib.Omega.{arith}
 use lib.ListN.{length, take, drop}
 use lib.Seq.{sets}
 use denote.Ref.{now}
-use Rattle.words.proofs.Filling.{Filled, filled-none, filled-front}
+use Rattle.words.proofs.Filling.{Filled, filled-none, filled-front, filled-next}
 use Rattle.words.proofs.Items.{item-inside}
 use Rattle.tile.specs.Tile.{packed}
 use Rattle.tile.proofs.Native.{Native, fitting}
 use Rattle.tileset.proofs.WritingLaws.{packs-at, packs-bytes}
-use Rattle.picture.proofs.Cells.{filled-next}
 use Rattle.picture.proofs.Checks.{native-tile}
 use Rattle.picture.proofs.Converted.{packed-size}
 use borrow.Author.Needs.{needs}
@@ -51,9 +50,6 @@ cast-size c = omega (arith, fitting (tiled (c .before .before)) .deep)
 loop-holds : tie.Need-loop-holds Inv-loop μ-loop
 loop-holds c = (omega arith, filled-none _ _ _)
 
-mul-put-tile : tie.Need-mul-put-tile Inv-loop μ-loop
-mul-put-tile c = search needs
-
 mul-put-tile-2 : tie.Need-mul-put-tile-2 Inv-loop μ-loop
 mul-put-tile-2 c = omega (arith, space (c .before .before))
 
@@ -62,9 +58,6 @@ put-tile-requires c κs =
     let t = c .before .before in
     packs-at (t .before .before .packing-of .ensures) (tiled (start t)) _ _ _ _ (omega (arith, c .before .put-tile-arg .given, start t .pre .few, t .loop-test .taken))
     (omega (arith, space t, t .before .loop .inv .1 .long))
-
-add-k : tie.Need-add-k Inv-loop μ-loop
-add-k c = search needs
 
 loop-less : tie.Need-loop-less Inv-loop μ-loop
 loop-less c = search needs
@@ -80,9 +73,6 @@ loop-again c =
           ∙ ap (λ (l : List ℕ). sets (lp .tiles) (lp .k * (s .args .depth * 8)) l) (packs-bytes (t .before .before .packing-of .ensures) (tiled s) (now (s .args .store)) (lp .k * 64))),
     )
 
-same-length : tie.Need-same-length Inv-loop μ-loop
-same-length c = search needs
-
 returns : tie.Need-returns Inv-loop μ-loop
 returns c = let s = c .before .before .before .before in filled-front (s .args .depth * 8) (s .args .count) (size-is s) (c .before .loop .inv .1) (omega arith) (s .pre .space)
 
@@ -96,11 +86,11 @@ put-tiles-spec =
     mul-size
     cast-size
     loop-holds
-    mul-put-tile
+    (λ c. search needs)
     mul-put-tile-2
     put-tile-requires
-    add-k
+    (λ c. search needs)
     loop-less
     loop-again
-    same-length
+    (λ c. search needs)
     returns)

@@ -21,12 +21,6 @@ module _ (c : tie.Else1) where
   none : let a = start .args in redrawSays (a .mode) (a .depth) (a .columns) (a .rows) (now (a .tiles)) (now (a .map)) (length (now (a .out))) ≡ 0
   none = sym (c .before .redraw-says .ensures) ∙ c .if1 .left
 
-redraw-says-requires : tie.Need-redraw-says-requires
-redraw-says-requires c κs = search needs
-
-refused-requires : tie.Need-refused-requires
-refused-requires c κs = search needs
-
 returns : tie.Need-returns
 returns c = refuse (c .before .before .redraw-says .result) (c .before .before .redraw-says .ensures) (c .before .if1 .taken) (c .refused .ensures) refl
 
@@ -42,9 +36,6 @@ mul-t16 c = omega (arith, few-tiles (redraw-sized _ _ _ _ _ _ _ (none (c .before
 cast-t9 : tie.Need-cast-t9
 cast-t9 c = omega (arith, few-tiles (redraw-sized _ _ _ _ _ _ _ (none (c .before .before .before .before))))
 
-same-length : tie.Need-same-length
-same-length c = search needs
-
 returns-2 : tie.Need-returns-2
 returns-2 c =
     let e = c .before .before .before .before in
@@ -56,12 +47,12 @@ pub redraw-spec : {M : Type 1} → statement M
 redraw-spec =
     tie.close
     (tie.spec
-    redraw-says-requires
-    refused-requires
+    (λ c κs. search needs)
+    (λ c κs. search needs)
     returns
     draw-requires
     mul-t15
     mul-t16
     cast-t9
-    same-length
+    (λ c. search needs)
     returns-2)

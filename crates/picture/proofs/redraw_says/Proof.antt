@@ -43,9 +43,6 @@ all-named : (c : tie.Else4) → let a = start (sized (c .before .before)) .args 
     some (a .columns * a .rows) (namesMore (a .mode) (a .depth) (length (now (a .tiles))) (now (a .map))) ≡ false
 all-named c = sym (c .before .names-more .ensures) ∙ c .if4 .left
 
-size-says-requires : tie.Need-size-says-requires
-size-says-requires c κs = search needs
-
 returns : tie.Need-returns
 returns c = redraw-size _ _ _ _ _ _ _ (c .before .size-says .result) (c .before .size-says .ensures) (c .if1 .taken)
 
@@ -112,7 +109,7 @@ pub redraw-says-spec : {M : Type 1} → statement M
 redraw-says-spec =
     tie.close
     (tie.spec
-    size-says-requires
+    (λ c κs. search needs)
     returns
     mul-size
     cast-size

@@ -31,26 +31,17 @@ returns-2 : tie.Need-returns-2
 unfolding sizeSays
 returns-2 c = rw (le-ltb 15 _ (c .before .before .if1 .left), eq-eqb _ pce-sprite (c .if2 .taken))
 
-has-depth-requires : tie.Need-has-depth-requires
-has-depth-requires c κs = search needs
-
 returns-3 : tie.Need-returns-3
 unfolding sizeSays
 returns-3 c =
     let e = c .before .before in
     rw (known e, mapped e, sym (c .before .has-depth .ensures) ∙ not-true (c .before .has-depth .result) (c .if3 .taken))
 
-is-span-requires : tie.Need-is-span-requires
-is-span-requires c κs = search needs
-
 returns-4 : tie.Need-returns-4
 unfolding sizeSays
 returns-4 c =
     let e = c .before .before .before .before in
     rw (known e, mapped e, deep (c .before .before), sym (c .before .is-span .ensures) ∙ not-true (c .before .is-span .result) (c .if4 .taken))
-
-is-span-requires-2 : tie.Need-is-span-requires-2
-is-span-requires-2 c κs = search needs
 
 returns-5 : tie.Need-returns-5
 unfolding sizeSays
@@ -72,10 +63,10 @@ size-says-spec =
     (tie.spec
     returns
     returns-2
-    has-depth-requires
+    (λ c κs. search needs)
     returns-3
-    is-span-requires
+    (λ c κs. search needs)
     returns-4
-    is-span-requires-2
+    (λ c κs. search needs)
     returns-5
     returns-6)

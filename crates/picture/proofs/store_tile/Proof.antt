@@ -8,12 +8,6 @@ use Rattle.picture.proofs.store_tile.Tie as tie
 returns : tie.Need-returns
 returns c = stored-none (c .before .pre .keeps) _ _ _ _ _ (omega (arith, c .if1 .taken))
 
-enter-requires : tie.Need-enter-requires
-enter-requires c κs = search needs
-
-add-t18 : tie.Need-add-t18
-add-t18 c = search needs
-
 returns-2 : tie.Need-returns-2
 returns-2 c = stored-last (c .before .before .before .before .before .before .pre .keeps) _ (omega (arith, c .before .before .before .before .before .if1 .left)) (c .enter .ensures)
 
@@ -22,6 +16,6 @@ store-tile-spec =
     tie.close
     (tie.spec
     returns
-    enter-requires
-    add-t18
+    (λ c κs. search needs)
+    (λ c. search needs)
     returns-2)

@@ -4,8 +4,7 @@ use Prim.Native.Nat.{_≤_, _-_}
 use native.Mathlib.Nat.{div-le-self}
 use native.Mathlib.Omega.{arith}
 use denote.Ref.{now}
-use Rattle.words.proofs.Filling.{Filled, filled-none, filled-whole}
-use Rattle.picture.proofs.Cells.{filled-next}
+use Rattle.words.proofs.Filling.{Filled, filled-none, filled-whole, filled-next}
 use Rattle.picture.proofs.Taking.{rowAt, row-length, rows-are, row-there}
 use borrow.Author.Needs.{needs}
 use Rattle.picture.proofs.take_tile.Statement.{statement}
@@ -17,20 +16,11 @@ Inv-loop depth pixels columns i tile₀ line corner y₀ tile y = (y ≤ 8) × F
 abbrev μ-loop : tie.MeasureT-loop
 μ-loop depth pixels columns i tile₀ line corner y₀ tile y = 8 - y
 
-mul-line : tie.Need-mul-line Inv-loop μ-loop
-mul-line c = search needs
-
-div-corner : tie.Need-div-corner Inv-loop μ-loop
-div-corner c = search needs
-
 mul-corner : tie.Need-mul-corner Inv-loop μ-loop
 mul-corner c = omega (arith, div-le-self (c .before .args .i) (c .before .args .columns), c .before .pre .few)
 
 mul-corner-2 : tie.Need-mul-corner-2 Inv-loop μ-loop
 mul-corner-2 c = omega (arith, c .before .pre .inside)
-
-rem-corner : tie.Need-rem-corner Inv-loop μ-loop
-rem-corner c = search needs
 
 mul-corner-3 : tie.Need-mul-corner-3 Inv-loop μ-loop
 mul-corner-3 c = omega (arith, c .before .pre .inside)
@@ -47,20 +37,11 @@ mul-put-eight c = omega (arith, row-there (c .before .before .before .pre) (c .b
 add-put-eight : tie.Need-add-put-eight Inv-loop μ-loop
 add-put-eight c = omega (arith, row-there (c .before .before .before .pre) (c .before .loop .y) (c .loop-test .taken))
 
-slice-aggregate-put-eight : tie.Need-slice-aggregate-put-eight Inv-loop μ-loop
-slice-aggregate-put-eight c = search needs
-
-mul-put-eight-2 : tie.Need-mul-put-eight-2 Inv-loop μ-loop
-mul-put-eight-2 c = search needs
-
 put-eight-requires : tie.Need-put-eight-requires Inv-loop μ-loop
 put-eight-requires c κs =
     let t = c .before in
     let s = t .before .before .before in
     (s .pre .deep, omega (arith, row-there (s .pre) (t .before .loop .y) (t .loop-test .taken)), omega (arith, t .before .loop .inv .1 .long))
-
-add-y : tie.Need-add-y Inv-loop μ-loop
-add-y c = search needs
 
 loop-less : tie.Need-loop-less Inv-loop μ-loop
 loop-less c = search needs
@@ -81,20 +62,20 @@ take-tile-spec =
     (tie.spec
     Inv-loop
     μ-loop
-    mul-line
-    div-corner
+    (λ c. search needs)
+    (λ c. search needs)
     mul-corner
     mul-corner-2
-    rem-corner
+    (λ c. search needs)
     mul-corner-3
     add-corner
     loop-holds
     mul-put-eight
     add-put-eight
-    slice-aggregate-put-eight
-    mul-put-eight-2
+    (λ c. search needs)
+    (λ c. search needs)
     put-eight-requires
-    add-y
+    (λ c. search needs)
     loop-less
     loop-again
     returns)

@@ -17,21 +17,6 @@ loop-holds c = search needs
 returns : tie.Need-returns Inv-loop μ-loop
 returns c = search needs
 
-mul-value : tie.Need-mul-value Inv-loop μ-loop
-mul-value c = search needs
-
-shared-slice-read-digit : tie.Need-shared-slice-read-digit Inv-loop μ-loop
-shared-slice-read-digit c = search needs
-
-digit-requires : tie.Need-digit-requires Inv-loop μ-loop
-digit-requires c κs = search needs
-
-add-value : tie.Need-add-value Inv-loop μ-loop
-add-value c = search needs
-
-add-i : tie.Need-add-i Inv-loop μ-loop
-add-i c = search needs
-
 loop-less : tie.Need-loop-less Inv-loop μ-loop
 loop-less c = search needs
 
@@ -49,11 +34,11 @@ number-spec =
     μ-loop
     loop-holds
     returns
-    mul-value
-    shared-slice-read-digit
-    digit-requires
-    add-value
-    add-i
+    (λ c. search needs)
+    (λ c. search needs)
+    (λ c κs. search needs)
+    (λ c. search needs)
+    (λ c. search needs)
     loop-less
     loop-again
     returns-2)

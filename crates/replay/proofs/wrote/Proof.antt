@@ -11,17 +11,11 @@ returns c = search needs
 returns-2 : tie.Need-returns-2
 returns-2 c = search needs
 
-shared-slice-read-if3 : tie.Need-shared-slice-read-if3
-shared-slice-read-if3 c = search needs
-
 returns-3 : tie.Need-returns-3
 returns-3 c = search needs
 
 slice-aggregate-same-bytes : tie.Need-slice-aggregate-same-bytes
 slice-aggregate-same-bytes c = simp length-take (omega arith)
-
-same-bytes-requires : tie.Need-same-bytes-requires
-same-bytes-requires c κs = search needs
 
 returns-4 : tie.Need-returns-4
 returns-4 c = search needs
@@ -32,8 +26,8 @@ wrote-spec =
     (tie.spec
     returns
     returns-2
-    shared-slice-read-if3
+    (λ c. search needs)
     returns-3
     slice-aggregate-same-bytes
-    same-bytes-requires
+    (λ c κs. search needs)
     returns-4)

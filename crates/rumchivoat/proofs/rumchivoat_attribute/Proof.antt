@@ -3,14 +3,8 @@ use borrow.Author.Needs.{needs}
 use Rattle.rumchivoat.proofs.rumchivoat_attribute.Statement.{statement}
 use Rattle.rumchivoat.proofs.rumchivoat_attribute.Tie as tie
 
-entry-from-requires : tie.Need-entry-from-requires
-entry-from-requires c κs = search needs
-
-get-attribute-requires : tie.Need-get-attribute-requires
-get-attribute-requires c κs = search needs
-
 returns : tie.Need-returns
 returns c = rw (c .before .entry-from .ensures) at (c .get-attribute .ensures)
 
 pub rumchivoat-attribute-spec : {M : Type 1} → statement M
-rumchivoat-attribute-spec = tie.close (tie.spec entry-from-requires get-attribute-requires returns)
+rumchivoat-attribute-spec = tie.close (tie.spec (λ c κs. search needs) (λ c κs. search needs) returns)

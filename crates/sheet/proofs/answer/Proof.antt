@@ -6,21 +6,6 @@ use borrow.Author.Needs.{needs}
 use Rattle.sheet.proofs.answer.Statement.{statement}
 use Rattle.sheet.proofs.answer.Tie as tie
 
-slice-aggregate-convert : tie.Need-slice-aggregate-convert
-slice-aggregate-convert c = search needs
-
-slice-aggregate-convert-2 : tie.Need-slice-aggregate-convert-2
-slice-aggregate-convert-2 c = search needs
-
-convert-requires : tie.Need-convert-requires
-convert-requires c κs = search needs
-
-refuse-requires : tie.Need-refuse-requires
-refuse-requires c κs = search needs
-
-same-length : tie.Need-same-length
-same-length c = search needs
-
 returns : tie.Need-returns
 returns c =
     let b = c .before .before .before .before in
@@ -47,9 +32,6 @@ report-requires c κs =
     let fit = made .convert .ensures in
     reportable _ _ _ _ (made .before .before .before .before .before .pre) (search needs) (search needs) (tiles-inside fit (b .if1 .left)) (map-inside fit (b .if1 .left))
 
-same-length-2 : tie.Need-same-length-2
-same-length-2 c = search needs
-
 returns-2 : tie.Need-returns-2
 returns-2 c =
     let b = c .before .before .before .before .before .before in
@@ -59,16 +41,16 @@ pub answer-spec : {M : Type 1} → statement M
 answer-spec =
     tie.close
     (tie.spec
-    slice-aggregate-convert
-    slice-aggregate-convert-2
-    convert-requires
-    refuse-requires
-    same-length
+    (λ c. search needs)
+    (λ c. search needs)
+    (λ c κs. search needs)
+    (λ c κs. search needs)
+    (λ c. search needs)
     returns
     array-share-prefix-tiles
     slice-aggregate-report
     array-share-prefix-map
     slice-aggregate-report-2
     report-requires
-    same-length-2
+    (λ c. search needs)
     returns-2)

@@ -18,15 +18,6 @@ abbrev μ-loop : tie.MeasureT-loop
 loop-holds : tie.Need-loop-holds Inv-loop μ-loop
 loop-holds c = search needs
 
-shared-slice-read-wide : tie.Need-shared-slice-read-wide Inv-loop μ-loop
-shared-slice-read-wide c = search needs
-
-wide-requires : tie.Need-wide-requires Inv-loop μ-loop
-wide-requires c κs = search needs
-
-cast-b : tie.Need-cast-b Inv-loop μ-loop
-cast-b c = search needs
-
 returns : tie.Need-returns Inv-loop μ-loop
 returns c =
     let l = c .before .before .before .before in
@@ -39,21 +30,12 @@ returns-2 c =
     let s = l .before .before .args .s .now in
     sym (l .loop .inv .2 ∙ digits-high s (l .loop .i) (l .loop .n) (omega arith) (c .before .before .wide .ensures .0) (omega arith) (omega arith))
 
-mul-next : tie.Need-mul-next Inv-loop μ-loop
-mul-next c = search needs
-
-add-next : tie.Need-add-next Inv-loop μ-loop
-add-next c = search needs
-
 returns-3 : tie.Need-returns-3 Inv-loop μ-loop
 returns-3 c =
     let w = c .before .before .before in
     let l = w .before .before .before in
     let s = l .before .before .args .s .now in
     sym (l .loop .inv .2 ∙ digits-over s (l .loop .i) (l .loop .n) (omega arith) (w .wide .ensures .0) (omega arith) (omega arith) (omega arith))
-
-add-i : tie.Need-add-i Inv-loop μ-loop
-add-i c = search needs
 
 loop-less : tie.Need-loop-less Inv-loop μ-loop
 loop-less c = search needs
@@ -68,9 +50,6 @@ loop-again c =
       l .loop .inv .2 ∙ digits-more s (l .loop .i) (l .loop .n) (omega arith) (w .wide .ensures .0) (omega arith) (omega arith) (omega arith),
     )
 
-cast-t13 : tie.Need-cast-t13 Inv-loop μ-loop
-cast-t13 c = search needs
-
 returns-4 : tie.Need-returns-4 Inv-loop μ-loop
 returns-4 c =
     let l = c .before in
@@ -83,16 +62,16 @@ digits-spec =
     Inv-loop
     μ-loop
     loop-holds
-    shared-slice-read-wide
-    wide-requires
-    cast-b
+    (λ c. search needs)
+    (λ c κs. search needs)
+    (λ c. search needs)
     returns
     returns-2
-    mul-next
-    add-next
+    (λ c. search needs)
+    (λ c. search needs)
     returns-3
-    add-i
+    (λ c. search needs)
     loop-less
     loop-again
-    cast-t13
+    (λ c. search needs)
     returns-4)

@@ -8,12 +8,6 @@ use borrow.Author.Needs.{needs}
 use Rattle.sheet.proofs.line_says.Statement.{statement}
 use Rattle.sheet.proofs.line_says.Tie as tie
 
-key-requires : tie.Need-key-requires
-key-requires c κs = search needs
-
-sub-n : tie.Need-sub-n
-sub-n c = search needs
-
 returns : tie.Need-returns
 returns c =
     let b = c .before .before in
@@ -23,29 +17,8 @@ returns c =
 slice-aggregate-same-bytes : tie.Need-slice-aggregate-same-bytes
 slice-aggregate-same-bytes c = simp length-take (omega arith)
 
-sub-same-bytes : tie.Need-sub-same-bytes
-sub-same-bytes c = search needs
-
-part-same-bytes-start : tie.Need-part-same-bytes-start
-part-same-bytes-start c = search needs
-
 part-same-bytes-end : tie.Need-part-same-bytes-end
 part-same-bytes-end c = omega arith
-
-same-bytes-requires : tie.Need-same-bytes-requires
-same-bytes-requires c κs = search needs
-
-sub-text-says : tie.Need-sub-text-says
-sub-text-says c = search needs
-
-part-text-says-start : tie.Need-part-text-says-start
-part-text-says-start c = search needs
-
-part-text-says-end : tie.Need-part-text-says-end
-part-text-says-end c = search needs
-
-text-says-requires : tie.Need-text-says-requires
-text-says-requires c κs = search needs
 
 returns-2 : tie.Need-returns-2
 returns-2 c =
@@ -65,17 +38,17 @@ pub line-says-spec : {M : Type 1} → statement M
 line-says-spec =
     tie.close
     (tie.spec
-    key-requires
-    sub-n
+    (λ c κs. search needs)
+    (λ c. search needs)
     returns
     slice-aggregate-same-bytes
-    sub-same-bytes
-    part-same-bytes-start
+    (λ c. search needs)
+    (λ c. search needs)
     part-same-bytes-end
-    same-bytes-requires
-    sub-text-says
-    part-text-says-start
-    part-text-says-end
-    text-says-requires
+    (λ c κs. search needs)
+    (λ c. search needs)
+    (λ c. search needs)
+    (λ c. search needs)
+    (λ c κs. search needs)
     returns-2
     returns-3)

@@ -8,17 +8,11 @@ use Rattle.sheet.proofs.number.Tie as tie
 returns : tie.Need-returns
 returns c = sym (number-none (c .before .before .args .s .now) (c .if1 .taken))
 
-shared-slice-read-if2 : tie.Need-shared-slice-read-if2
-shared-slice-read-if2 c = search needs
-
 returns-2 : tie.Need-returns-2
 returns-2 c = sym (number-zero (c .before .before .before .before .before .args .s .now) (c .before .before .before .if1 .left) (c .before .if2 .taken) (c .if3 .taken))
 
 returns-3 : tie.Need-returns-3
 returns-3 c = sym (number-leading (c .before .before .before .before .before .args .s .now) (c .before .before .before .if1 .left) (c .before .if2 .taken) (c .if3 .left))
-
-digits-requires : tie.Need-digits-requires
-digits-requires c κs = search needs
 
 returns-4 : tie.Need-returns-4
 returns-4 c = c .digits .ensures ∙ sym (number-digits (c .before .before .before .before .before .args .s .now) (c .before .before .before .if1 .left) (c .before .if2 .left))
@@ -26,4 +20,4 @@ returns-4 c = c .digits .ensures ∙ sym (number-digits (c .before .before .befo
 pub number-spec : {M : Type 1} → statement M
 number-spec =
     tie.close
-    (tie.spec returns shared-slice-read-if2 returns-2 returns-3 digits-requires returns-4)
+    (tie.spec returns (λ c. search needs) returns-2 returns-3 (λ c κs. search needs) returns-4)

@@ -20,18 +20,6 @@ abbrev μ-loop : tie.MeasureT-loop
 loop-holds : tie.Need-loop-holds Inv-loop μ-loop
 loop-holds c = (omega arith, omega arith, omega arith, search needs, sym (append-nil (decimal (c .args .n))))
 
-sub-from : tie.Need-sub-from Inv-loop μ-loop
-sub-from c = search needs
-
-add-bytes : tie.Need-add-bytes Inv-loop μ-loop
-add-bytes c = search needs
-
-cast-bytes : tie.Need-cast-bytes Inv-loop μ-loop
-cast-bytes c = search needs
-
-array-write-bytes : tie.Need-array-write-bytes Inv-loop μ-loop
-array-write-bytes c = search needs
-
 loop-less : tie.Need-loop-less Inv-loop μ-loop
 loop-less c = search needs
 
@@ -46,18 +34,6 @@ loop-again c =
       digit-more (decimal (c .before .before .args .n)) (l .bytes) (l .left) (l .from) (c .loop-test .taken) (l .inv .2) (omega arith) (l .inv .4),
     )
 
-sub-from-2 : tie.Need-sub-from-2 Inv-loop μ-loop
-sub-from-2 c = search needs
-
-add-bytes-2 : tie.Need-add-bytes-2 Inv-loop μ-loop
-add-bytes-2 c = search needs
-
-cast-bytes-2 : tie.Need-cast-bytes-2 Inv-loop μ-loop
-cast-bytes-2 c = search needs
-
-array-write-bytes-2 : tie.Need-array-write-bytes-2 Inv-loop μ-loop
-array-write-bytes-2 c = search needs
-
 returns : tie.Need-returns Inv-loop μ-loop
 returns c =
     let l = c .before .loop in
@@ -70,14 +46,14 @@ numeral-spec =
     Inv-loop
     μ-loop
     loop-holds
-    sub-from
-    add-bytes
-    cast-bytes
-    array-write-bytes
+    (λ c. search needs)
+    (λ c. search needs)
+    (λ c. search needs)
+    (λ c. search needs)
     loop-less
     loop-again
-    sub-from-2
-    add-bytes-2
-    cast-bytes-2
-    array-write-bytes-2
+    (λ c. search needs)
+    (λ c. search needs)
+    (λ c. search needs)
+    (λ c. search needs)
     returns)

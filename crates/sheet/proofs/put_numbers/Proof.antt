@@ -20,26 +20,8 @@ abbrev μ-loop : tie.MeasureT-loop
 loop-holds : tie.Need-loop-holds Inv-loop μ-loop
 loop-holds c = (omega arith, omega arith, search needs, puts-none _ _)
 
-mul-put-line : tie.Need-mul-put-line Inv-loop μ-loop
-mul-put-line c = search needs
-
-array-read-put-line : tie.Need-array-read-put-line Inv-loop μ-loop
-array-read-put-line c = search needs
-
-mul-numeral : tie.Need-mul-numeral Inv-loop μ-loop
-mul-numeral c = search needs
-
-array-read-numeral : tie.Need-array-read-numeral Inv-loop μ-loop
-array-read-numeral c = search needs
-
-numeral-requires : tie.Need-numeral-requires Inv-loop μ-loop
-numeral-requires c κs = search needs
-
 put-line-requires : tie.Need-put-line-requires Inv-loop μ-loop
 put-line-requires c κs = (key-inside (c .before .before .before .loop .i) (c .before .before .loop-test .taken), search needs, omega arith)
-
-add-i : tie.Need-add-i Inv-loop μ-loop
-add-i c = search needs
 
 loop-less : tie.Need-loop-less Inv-loop μ-loop
 loop-less c = search needs
@@ -55,9 +37,6 @@ loop-again c =
       number-put (b .before .before .args .t3) (l .i) (n .numeral .ensures) (l .inv .3) (c .before .before .put-line .ensures .0),
     )
 
-same-length : tie.Need-same-length Inv-loop μ-loop
-same-length c = search needs
-
 returns : tie.Need-returns Inv-loop μ-loop
 returns c = (all-numbers _ (c .before .loop .i) (omega arith) (c .before .loop .inv .3), omega arith)
 
@@ -68,14 +47,14 @@ put-numbers-spec =
     Inv-loop
     μ-loop
     loop-holds
-    mul-put-line
-    array-read-put-line
-    mul-numeral
-    array-read-numeral
-    numeral-requires
+    (λ c. search needs)
+    (λ c. search needs)
+    (λ c. search needs)
+    (λ c. search needs)
+    (λ c κs. search needs)
     put-line-requires
-    add-i
+    (λ c. search needs)
     loop-less
     loop-again
-    same-length
+    (λ c. search needs)
     returns)

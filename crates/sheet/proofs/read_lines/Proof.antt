@@ -25,18 +25,6 @@ loop-holds : tie.Need-loop-holds Inv-loop μ-loop
 unfolding sheetLines
 loop-holds c = (omega arith, omega arith, search needs, refl)
 
-sub-rest : tie.Need-sub-rest Inv-loop μ-loop
-sub-rest c = search needs
-
-part-rest-start : tie.Need-part-rest-start Inv-loop μ-loop
-part-rest-start c = search needs
-
-part-rest-end : tie.Need-part-rest-end Inv-loop μ-loop
-part-rest-end c = search needs
-
-line-length-requires : tie.Need-line-length-requires Inv-loop μ-loop
-line-length-requires c κs = search needs
-
 returns : tie.Need-returns Inv-loop μ-loop
 unfolding linesIn
 returns c =
@@ -57,12 +45,6 @@ line-says-requires c κs =
     let b = c .before .before .before .before .before in
     subst (λ (l : Line). l .0 < keyCount) (sym (c .before .line-at .ensures)) (key-known _ (inside _ (b .loop-test .taken)))
 
-enum-known-v : tie.Need-enum-known-v Inv-loop μ-loop
-enum-known-v c = search needs
-
-enum-told : tie.Need-enum-told Inv-loop μ-loop
-enum-told c = search needs
-
 returns-2 : tie.Need-returns-2 Inv-loop μ-loop
 unfolding linesIn
 returns-2 c =
@@ -74,21 +56,6 @@ returns-2 c =
     let line = c .before .before .before .before .line-at .ensures in
     let told = sym (c .before .before .line-says .ensures) ∙ c .enum-told .given .1 in
     sym (ap sheetOf (l .inv .3 ∙ lines-wrong s (l .values) (l .k) (l .at) here (e .before .line-length .ensures .0) line (e .if1 .left) told))
-
-mul-values : tie.Need-mul-values Inv-loop μ-loop
-mul-values c = search needs
-
-array-write-values : tie.Need-array-write-values Inv-loop μ-loop
-array-write-values c = search needs
-
-add-at : tie.Need-add-at Inv-loop μ-loop
-add-at c = search needs
-
-add-at-2 : tie.Need-add-at-2 Inv-loop μ-loop
-add-at-2 c = search needs
-
-add-k : tie.Need-add-k Inv-loop μ-loop
-add-k c = search needs
 
 loop-less : tie.Need-loop-less Inv-loop μ-loop
 unfolding sheetLines
@@ -110,9 +77,6 @@ loop-again c =
       l .inv .3 ∙ lines-more s (l .values) (l .k) (l .at) here (e .before .line-length .ensures .0) line (e .if1 .left) (v .0 .0) (omega arith) told,
     )
 
-settings-requires : tie.Need-settings-requires Inv-loop μ-loop
-settings-requires c κs = search needs
-
 returns-3 : tie.Need-returns-3 Inv-loop μ-loop
 unfolding linesIn
 returns-3 c =
@@ -128,23 +92,23 @@ read-lines-spec =
     Inv-loop
     μ-loop
     loop-holds
-    sub-rest
-    part-rest-start
-    part-rest-end
-    line-length-requires
+    (λ c. search needs)
+    (λ c. search needs)
+    (λ c. search needs)
+    (λ c κs. search needs)
     returns
     line-at-requires
     slice-aggregate-line-says
     line-says-requires
-    enum-known-v
-    enum-told
+    (λ c. search needs)
+    (λ c. search needs)
     returns-2
-    mul-values
-    array-write-values
-    add-at
-    add-at-2
-    add-k
+    (λ c. search needs)
+    (λ c. search needs)
+    (λ c. search needs)
+    (λ c. search needs)
+    (λ c. search needs)
     loop-less
     loop-again
-    settings-requires
+    (λ c κs. search needs)
     returns-3)

@@ -8,18 +8,6 @@ use borrow.Author.Needs.{needs}
 use Rattle.sheet.proofs.read_sheet.Statement.{statement}
 use Rattle.sheet.proofs.read_sheet.Tie as tie
 
-read-lines-requires : tie.Need-read-lines-requires
-read-lines-requires c κs = search needs
-
-enum-known-z : tie.Need-enum-known-z
-enum-known-z c = search needs
-
-cast-pixels : tie.Need-cast-pixels
-cast-pixels c = search needs
-
-cast-pixels-2 : tie.Need-cast-pixels-2
-cast-pixels-2 c = search needs
-
 mul-pixels : tie.Need-mul-pixels
 mul-pixels c =
     let b = c .before .before .before in
@@ -50,9 +38,6 @@ returns-2 c =
     let read = sym (b .before .before .read-lines .ensures) ∙ b .z .given .1 in
     sheet-other _ read (lines-were _ _ _ read .inside) (c .if1 .left)
 
-enum-told : tie.Need-enum-told
-enum-told c = search needs
-
 returns-3 : tie.Need-returns-3
 returns-3 c = sheet-wrong _ (sym (c .before .before .read-lines .ensures) ∙ c .enum-told .given .1)
 
@@ -60,14 +45,14 @@ pub read-sheet-spec : {M : Type 1} → statement M
 read-sheet-spec =
     tie.close
     (tie.spec
-    read-lines-requires
-    enum-known-z
-    cast-pixels
-    cast-pixels-2
+    (λ c κs. search needs)
+    (λ c. search needs)
+    (λ c. search needs)
+    (λ c. search needs)
     mul-pixels
     mul-pixels-2
     sub-if1
     returns
     returns-2
-    enum-told
+    (λ c. search needs)
     returns-3)

@@ -7,12 +7,6 @@ use borrow.Author.Needs.{needs}
 use Rattle.sheet.proofs.run.Statement.{statement}
 use Rattle.sheet.proofs.run.Tie as tie
 
-read-sheet-requires : tie.Need-read-sheet-requires
-read-sheet-requires c κs = search needs
-
-enum-known-z : tie.Need-enum-known-z
-enum-known-z c = search needs
-
 sub-answer : tie.Need-sub-answer
 sub-answer c =
     let b = c .before in
@@ -23,30 +17,15 @@ part-answer-start c =
     let b = c .before in
     sheet-lines _ _ _ (sym (b .before .before .read-sheet .ensures) ∙ b .z .given .1) .inside
 
-part-answer-end : tie.Need-part-answer-end
-part-answer-end c = search needs
-
 answer-requires : tie.Need-answer-requires
 answer-requires c κs =
     let b = c .before .before .before in
     omega (arith, sheet-lines _ _ _ (sym (b .before .before .read-sheet .ensures) ∙ b .z .given .1) .limits .known)
 
-same-length : tie.Need-same-length
-same-length c = search needs
-
 returns : tie.Need-returns
 returns c =
     let b = c .before .before .before .before .before .before in
     ran-read _ (sym (b .before .before .read-sheet .ensures) ∙ b .z .given .1) (c .before .before .answer .ensures)
-
-enum-told : tie.Need-enum-told
-enum-told c = search needs
-
-refuse-requires : tie.Need-refuse-requires
-refuse-requires c κs = search needs
-
-same-length-2 : tie.Need-same-length-2
-same-length-2 c = search needs
 
 returns-2 : tie.Need-returns-2
 returns-2 c =
@@ -57,15 +36,15 @@ pub run-spec : {M : Type 1} → statement M
 run-spec =
     tie.close
     (tie.spec
-    read-sheet-requires
-    enum-known-z
+    (λ c κs. search needs)
+    (λ c. search needs)
     sub-answer
     part-answer-start
-    part-answer-end
+    (λ c. search needs)
     answer-requires
-    same-length
+    (λ c. search needs)
     returns
-    enum-told
-    refuse-requires
-    same-length-2
+    (λ c. search needs)
+    (λ c κs. search needs)
+    (λ c. search needs)
     returns-2)

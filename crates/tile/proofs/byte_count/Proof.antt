@@ -7,28 +7,10 @@ use Rattle.tile.proofs.Packings.{planes-of, sized-of, sound-in, byte-co
 use Rattle.tile.proofs.byte_count.Statement.{statement}
 use Rattle.tile.proofs.byte_count.Tie as tie
 
-enum-known-p : tie.Need-enum-known-p
-enum-known-p c = search needs
-
 mul-result : tie.Need-mul-result
 mul-result c =
     let t = c .before .p .given in
     omega (arith, planes-of (t .0 .0) (t .0 .1 .0) (sound-in (Planar (t .0 .0) (t .0 .1 .0)) (t .1) (c .before .before .before .pre)) .deep)
-
-enum-told : tie.Need-enum-told
-enum-told c = search needs
-
-enum-told-2 : tie.Need-enum-told-2
-enum-told-2 c = search needs
-
-enum-told-3 : tie.Need-enum-told-3
-enum-told-3 c = search needs
-
-enum-told-4 : tie.Need-enum-told-4
-enum-told-4 c = search needs
-
-enum-known-p-2 : tie.Need-enum-known-p-2
-enum-known-p-2 c = search needs
 
 mul-result-2 : tie.Need-mul-result-2
 mul-result-2 c =
@@ -61,13 +43,13 @@ pub byte-count-spec : {M : Type 1} → statement M
 byte-count-spec =
     tie.close
     (tie.spec
-    enum-known-p
+    (λ c. search needs)
     mul-result
-    enum-told
-    enum-told-2
-    enum-told-3
-    enum-told-4
-    enum-known-p-2
+    (λ c. search needs)
+    (λ c. search needs)
+    (λ c. search needs)
+    (λ c. search needs)
+    (λ c. search needs)
     mul-result-2
     returns
     returns-2

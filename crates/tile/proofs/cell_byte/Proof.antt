@@ -15,21 +15,6 @@ inside c =
     let a = c .before .args in
     omega (arith, c .before .pre .whole, row-inside (a .above * 16 + a .k % 32 / 2) (a .width) (a .above * 16 + 16) (omega arith))
 
-mul-x : tie.Need-mul-x
-mul-x c = search needs
-
-mul-x-2 : tie.Need-mul-x-2
-mul-x-2 c = search needs
-
-add-x : tie.Need-add-x
-add-x c = search needs
-
-mul-y : tie.Need-mul-y
-mul-y c = search needs
-
-add-y : tie.Need-add-y
-add-y c = search needs
-
 mul-plane-byte : tie.Need-mul-plane-byte
 mul-plane-byte c = omega (arith, inside c)
 
@@ -46,11 +31,11 @@ pub cell-byte-spec : {M : Type 1} → statement M
 cell-byte-spec =
     tie.close
     (tie.spec
-    mul-x
-    mul-x-2
-    add-x
-    mul-y
-    add-y
+    (λ c. search needs)
+    (λ c. search needs)
+    (λ c. search needs)
+    (λ c. search needs)
+    (λ c. search needs)
     mul-plane-byte
     add-plane-byte
     plane-byte-requires

@@ -5,9 +5,6 @@ use borrow.Author.Needs.{needs}
 use Rattle.tile.proofs.column.Statement.{statement}
 use Rattle.tile.proofs.column.Tie as tie
 
-sub-result : tie.Need-sub-result
-sub-result c = search needs
-
 returns : tie.Need-returns
 returns c = rw (c .if1 .taken) (omega arith)
 
@@ -15,4 +12,4 @@ returns-2 : tie.Need-returns-2
 returns-2 c = rw (c .if1 .left) (omega arith)
 
 pub column-spec : {M : Type 1} → statement M
-column-spec = tie.close (tie.spec sub-result returns returns-2)
+column-spec = tie.close (tie.spec (λ c. search needs) returns returns-2)

@@ -8,21 +8,6 @@ use Rattle.tile.proofs.Bits.{field}
 use Rattle.tile.proofs.high_first_pixel.Statement.{statement}
 use Rattle.tile.proofs.high_first_pixel.Tie as tie
 
-shared-slice-read-result : tie.Need-shared-slice-read-result
-shared-slice-read-result c = search needs
-
-sub-result : tie.Need-sub-result
-sub-result c = search needs
-
-mul-result : tie.Need-mul-result
-mul-result c = search needs
-
-cast-result : tie.Need-cast-result
-cast-result c = search needs
-
-shr-result : tie.Need-shr-result
-shr-result c = search needs
-
 returns : tie.Need-returns
 returns c =
     let a = c .before .args in
@@ -31,4 +16,4 @@ returns c =
 pub high-first-pixel-spec : {M : Type 1} → statement M
 high-first-pixel-spec =
     tie.close
-    (tie.spec shared-slice-read-result sub-result mul-result cast-result shr-result returns)
+    (tie.spec (λ c. search needs) (λ c. search needs) (λ c. search needs) (λ c. search needs) (λ c. search needs) returns)

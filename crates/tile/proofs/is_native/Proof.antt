@@ -16,16 +16,10 @@ use Rattle.tile.proofs.is_native.Tie as tie
 of-width : (m w h : ℕ) (r b : Bool) → m ≡ pce-sprite → r ≡ oneOf w (16 ∷ 32 ∷ []) → r ≡ b → (b && oneOf h (16 ∷ 32 ∷ 64 ∷ [])) ≡ isNative m w h
 of-width m w h r b e f g = sym (ap (λ (n : ℕ). isNative n w h) e ∙ ap (λ (t : Bool). t && oneOf h (16 ∷ 32 ∷ 64 ∷ [])) (sym f ∙ g))
 
-is-sprite-width-requires : tie.Need-is-sprite-width-requires
-is-sprite-width-requires c κs = search needs
-
 returns : tie.Need-returns
 returns c =
     let a = c .before .before .before .before .args in
     of-width (a .m .0) (a .width) (a .height) _ _ (c .before .before .if1 .taken) (c .before .is-sprite-width .ensures) (not-true _ (c .if2 .taken))
-
-is-sprite-height-requires : tie.Need-is-sprite-height-requires
-is-sprite-height-requires c κs = search needs
 
 returns-2 : tie.Need-returns-2
 returns-2 c =
@@ -42,9 +36,9 @@ pub is-native-spec : {M : Type 1} → statement M
 is-native-spec =
     tie.close
     (tie.spec
-    is-sprite-width-requires
+    (λ c κs. search needs)
     returns
-    is-sprite-height-requires
+    (λ c κs. search needs)
     returns-2
     returns-3
     returns-4)

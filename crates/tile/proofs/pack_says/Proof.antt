@@ -17,9 +17,6 @@ module _ (c : tie.Else1) where
   fits : Fitting (c .before .before .before .args .mode) (c .before .before .before .args .depth) (c .before .before .before .args .width) (c .before .before .before .args .height)
   fits = fitting (native-of (c .before .before .before .args .mode) (c .before .before .before .args .depth) (c .before .before .before .args .width) (c .before .before .before .args .height) allowed)
 
-tile-says-requires : tie.Need-tile-says-requires
-tile-says-requires c κs = search needs
-
 returns : tie.Need-returns
 returns c =
     let a = c .before .before .before .args in
@@ -64,7 +61,7 @@ pub pack-says-spec : {M : Type 1} → statement M
 pack-says-spec =
     tie.close
     (tie.spec
-    tile-says-requires
+    (λ c κs. search needs)
     returns
     mul-size
     cast-if2

@@ -8,9 +8,6 @@ use Rattle.tile.proofs.Packings.{planes-of, has-byte, same-byte}
 use Rattle.tile.proofs.packed_byte.Statement.{statement}
 use Rattle.tile.proofs.packed_byte.Tie as tie
 
-enum-known-p : tie.Need-enum-known-p
-enum-known-p c = search needs
-
 planar-byte-requires : tie.Need-planar-byte-requires
 planar-byte-requires c κs =
     let t = c .before .p .given in
@@ -18,40 +15,25 @@ planar-byte-requires c κs =
     let s = planes-of (t .0 .0) (t .0 .1 .0) (h .sound) in
     (s .group, h .whole, omega (arith, h .within, s .deep))
 
-enum-told : tie.Need-enum-told
-enum-told c = search needs
-
 ngp-byte-requires : tie.Need-ngp-byte-requires
 ngp-byte-requires c κs =
     let h = has-byte Ngp (c .enum-told .given .1) (c .before .before .before .pre) in
     (h .whole, h .within)
-
-enum-told-2 : tie.Need-enum-told-2
-enum-told-2 c = search needs
 
 low-first-byte-requires : tie.Need-low-first-byte-requires
 low-first-byte-requires c κs =
     let h = has-byte LowFirst (c .enum-told2 .given .1) (c .before .before .before .pre) in
     (h .whole, h .within)
 
-enum-told-3 : tie.Need-enum-told-3
-enum-told-3 c = search needs
-
 high-first-byte-requires : tie.Need-high-first-byte-requires
 high-first-byte-requires c κs =
     let h = has-byte HighFirst (c .enum-told3 .given .1) (c .before .before .before .pre) in
     (h .whole, h .within)
 
-enum-told-4 : tie.Need-enum-told-4
-enum-told-4 c = search needs
-
 plain-byte-requires : tie.Need-plain-byte-requires
 plain-byte-requires c κs =
     let h = has-byte Plain (c .enum-told4 .given .1) (c .before .before .before .pre) in
     omega arith
-
-enum-known-p-2 : tie.Need-enum-known-p-2
-enum-known-p-2 c = search needs
 
 sprite-byte-requires : tie.Need-sprite-byte-requires
 sprite-byte-requires c κs =
@@ -95,17 +77,17 @@ pub packed-byte-spec : {M : Type 1} → statement M
 packed-byte-spec =
     tie.close
     (tie.spec
-    enum-known-p
+    (λ c. search needs)
     planar-byte-requires
-    enum-told
+    (λ c. search needs)
     ngp-byte-requires
-    enum-told-2
+    (λ c. search needs)
     low-first-byte-requires
-    enum-told-3
+    (λ c. search needs)
     high-first-byte-requires
-    enum-told-4
+    (λ c. search needs)
     plain-byte-requires
-    enum-known-p-2
+    (λ c. search needs)
     sprite-byte-requires
     returns
     returns-2

@@ -8,24 +8,6 @@ use Rattle.tile.proofs.Packings.{sized-of, sound-in, pixel-count-in}
 use Rattle.tile.proofs.pixel_count.Statement.{statement}
 use Rattle.tile.proofs.pixel_count.Tie as tie
 
-enum-told : tie.Need-enum-told
-enum-told c = search needs
-
-enum-told-2 : tie.Need-enum-told-2
-enum-told-2 c = search needs
-
-enum-told-3 : tie.Need-enum-told-3
-enum-told-3 c = search needs
-
-enum-told-4 : tie.Need-enum-told-4
-enum-told-4 c = search needs
-
-enum-told-5 : tie.Need-enum-told-5
-enum-told-5 c = search needs
-
-enum-known-p : tie.Need-enum-known-p
-enum-known-p c = search needs
-
 mul-result : tie.Need-mul-result
 mul-result c =
     let t = c .before .p .given in
@@ -55,12 +37,12 @@ pub pixel-count-spec : {M : Type 1} → statement M
 pixel-count-spec =
     tie.close
     (tie.spec
-    enum-told
-    enum-told-2
-    enum-told-3
-    enum-told-4
-    enum-told-5
-    enum-known-p
+    (λ c. search needs)
+    (λ c. search needs)
+    (λ c. search needs)
+    (λ c. search needs)
+    (λ c. search needs)
+    (λ c. search needs)
     mul-result
     returns
     returns-2

@@ -16,45 +16,15 @@ use Rattle.tile.proofs.planar_byte.Tie as tie
 grouped : (n : ℕ) (xs : List ℕ) (g k : ℕ) {at p : ℕ} → g ≡ n → at ≡ k / n % 8 * 8 → p ≡ k / (n * 8) * n + k % n → planeByte true xs at p ≡ element (planar g 8 8 8 .bytes) xs k
 grouped n xs g k e ha hp = ap₂ (planeByte true xs) ha hp ∙ ap (λ (m : ℕ). element (planar m 8 8 8 .bytes) xs k) (sym e)
 
-mul-plane-byte : tie.Need-mul-plane-byte
-mul-plane-byte c = search needs
-
-plane-byte-requires : tie.Need-plane-byte-requires
-plane-byte-requires c κs = search needs
-
 returns : tie.Need-returns
 returns c =
     let a = c .before .before .before .args in
     c .plane-byte .ensures ∙ grouped 1 (a .tile .now) (a .group) (a .k) (omega arith) (omega arith) (omega arith)
 
-mul-plane-byte-2 : tie.Need-mul-plane-byte-2
-mul-plane-byte-2 c = search needs
-
-mul-plane-byte-3 : tie.Need-mul-plane-byte-3
-mul-plane-byte-3 c = search needs
-
-add-plane-byte : tie.Need-add-plane-byte
-add-plane-byte c = search needs
-
-plane-byte-requires-2 : tie.Need-plane-byte-requires-2
-plane-byte-requires-2 c κs = search needs
-
 returns-2 : tie.Need-returns-2
 returns-2 c =
     let a = c .before .before .before .before .args in
     c .plane-byte2 .ensures ∙ grouped 2 (a .tile .now) (a .group) (a .k) (omega arith) (omega arith) (omega arith)
-
-mul-plane-byte-4 : tie.Need-mul-plane-byte-4
-mul-plane-byte-4 c = search needs
-
-mul-plane-byte-5 : tie.Need-mul-plane-byte-5
-mul-plane-byte-5 c = search needs
-
-add-plane-byte-2 : tie.Need-add-plane-byte-2
-add-plane-byte-2 c = search needs
-
-plane-byte-requires-3 : tie.Need-plane-byte-requires-3
-plane-byte-requires-3 c κs = search needs
 
 returns-3 : tie.Need-returns-3
 returns-3 c =
@@ -65,16 +35,16 @@ pub planar-byte-spec : {M : Type 1} → statement M
 planar-byte-spec =
     tie.close
     (tie.spec
-    mul-plane-byte
-    plane-byte-requires
+    (λ c. search needs)
+    (λ c κs. search needs)
     returns
-    mul-plane-byte-2
-    mul-plane-byte-3
-    add-plane-byte
-    plane-byte-requires-2
+    (λ c. search needs)
+    (λ c. search needs)
+    (λ c. search needs)
+    (λ c κs. search needs)
     returns-2
-    mul-plane-byte-4
-    mul-plane-byte-5
-    add-plane-byte-2
-    plane-byte-requires-3
+    (λ c. search needs)
+    (λ c. search needs)
+    (λ c. search needs)
+    (λ c κs. search needs)
     returns-3)

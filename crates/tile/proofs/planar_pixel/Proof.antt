@@ -22,40 +22,16 @@ Inv-loop bytes group depth i s v₀ n₀ v n = Rising depth (bitsFrom bytes grou
 abbrev μ-loop : tie.MeasureT-loop
 μ-loop bytes group depth i s v₀ n₀ v n = depth - n
 
-sub-s : tie.Need-sub-s Inv-loop μ-loop
-sub-s c = search needs
-
 loop-holds : tie.Need-loop-holds Inv-loop μ-loop
 loop-holds c =
     let a = c .before .args in
     rising-none (λ j. bit-lt (7 - a .i % 8) (getD (a .bytes .now) (planar (a .group) (a .depth) 8 8 .pixels .from (a .i) j) 0))
 
-add-planar-place : tie.Need-add-planar-place Inv-loop μ-loop
-add-planar-place c = search needs
-
-sub-planar-place : tie.Need-sub-planar-place Inv-loop μ-loop
-sub-planar-place c = search needs
-
-planar-place-requires : tie.Need-planar-place-requires Inv-loop μ-loop
-planar-place-requires c κs = search needs
-
 mul-v : tie.Need-mul-v Inv-loop μ-loop
 mul-v c = omega (arith, rising-space (c .before .before .loop .inv) (c .before .loop-test .taken) (omega arith))
 
-shared-slice-read-v : tie.Need-shared-slice-read-v Inv-loop μ-loop
-shared-slice-read-v c = search needs
-
-cast-v : tie.Need-cast-v Inv-loop μ-loop
-cast-v c = search needs
-
-shr-v : tie.Need-shr-v Inv-loop μ-loop
-shr-v c = search needs
-
 add-v : tie.Need-add-v Inv-loop μ-loop
 add-v c = omega (arith, rising-space (c .before .before .before .loop .inv) (c .before .before .loop-test .taken) (omega arith))
-
-add-n : tie.Need-add-n Inv-loop μ-loop
-add-n c = search needs
 
 loop-less : tie.Need-loop-less Inv-loop μ-loop
 loop-less c = search needs
@@ -74,17 +50,17 @@ planar-pixel-spec =
     (tie.spec
     Inv-loop
     μ-loop
-    sub-s
+    (λ c. search needs)
     loop-holds
-    add-planar-place
-    sub-planar-place
-    planar-place-requires
+    (λ c. search needs)
+    (λ c. search needs)
+    (λ c κs. search needs)
     mul-v
-    shared-slice-read-v
-    cast-v
-    shr-v
+    (λ c. search needs)
+    (λ c. search needs)
+    (λ c. search needs)
     add-v
-    add-n
+    (λ c. search needs)
     loop-less
     loop-again
     returns)

@@ -26,35 +26,11 @@ abbrev μ-loop : tie.MeasureT-loop
 loop-holds : tie.Need-loop-holds Inv-loop μ-loop
 loop-holds c = let a = c .before .args in rising-none (λ j. bit-lt (a .p) (getD (a .tile .now) (a .at + columnOf (a .top) j) 0))
 
-add-column : tie.Need-add-column Inv-loop μ-loop
-add-column c = search needs
-
-sub-column : tie.Need-sub-column Inv-loop μ-loop
-sub-column c = search needs
-
-column-requires : tie.Need-column-requires Inv-loop μ-loop
-column-requires c κs = search needs
-
 mul-b : tie.Need-mul-b Inv-loop μ-loop
 mul-b c = omega (arith, rising-space (c .before .before .loop .inv) (c .before .loop-test .taken) (omega arith))
 
-add-b : tie.Need-add-b Inv-loop μ-loop
-add-b c = search needs
-
-shared-slice-read-b : tie.Need-shared-slice-read-b Inv-loop μ-loop
-shared-slice-read-b c = search needs
-
-cast-b : tie.Need-cast-b Inv-loop μ-loop
-cast-b c = search needs
-
-shr-b : tie.Need-shr-b Inv-loop μ-loop
-shr-b c = search needs
-
 add-b-2 : tie.Need-add-b-2 Inv-loop μ-loop
 add-b-2 c = omega (arith, rising-space (c .before .before .before .loop .inv) (c .before .before .loop-test .taken) (omega arith))
-
-add-n : tie.Need-add-n Inv-loop μ-loop
-add-n c = search needs
 
 loop-less : tie.Need-loop-less Inv-loop μ-loop
 loop-less c = search needs
@@ -74,16 +50,16 @@ plane-byte-spec =
     Inv-loop
     μ-loop
     loop-holds
-    add-column
-    sub-column
-    column-requires
+    (λ c. search needs)
+    (λ c. search needs)
+    (λ c κs. search needs)
     mul-b
-    add-b
-    shared-slice-read-b
-    cast-b
-    shr-b
+    (λ c. search needs)
+    (λ c. search needs)
+    (λ c. search needs)
+    (λ c. search needs)
     add-b-2
-    add-n
+    (λ c. search needs)
     loop-less
     loop-again
     returns)

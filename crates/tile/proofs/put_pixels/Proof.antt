@@ -25,24 +25,6 @@ abbrev μ-loop : tie.MeasureT-loop
 whole : (from n m : ℕ) → n ≡ m → from + n - from ≡ m
 whole from n m e = omega arith
 
-byte-count-requires : tie.Need-byte-count-requires Inv-loop μ-loop
-byte-count-requires c κs = search needs
-
-add-end : tie.Need-add-end Inv-loop μ-loop
-add-end c = search needs
-
-sub-tile : tie.Need-sub-tile Inv-loop μ-loop
-sub-tile c = search needs
-
-part-tile-start : tie.Need-part-tile-start Inv-loop μ-loop
-part-tile-start c = search needs
-
-part-tile-end : tie.Need-part-tile-end Inv-loop μ-loop
-part-tile-end c = search needs
-
-pixel-count-requires : tie.Need-pixel-count-requires Inv-loop μ-loop
-pixel-count-requires c κs = search needs
-
 loop-holds : tie.Need-loop-holds Inv-loop μ-loop
 loop-holds c = (search needs, filled-none _ _ _)
 
@@ -57,14 +39,8 @@ unpacked-pixel-requires c κs =
       within = omega (arith, c .before .before .pixel-count .ensures);
     }
 
-add-out : tie.Need-add-out Inv-loop μ-loop
-add-out c = search needs
-
 slice-write-out : tie.Need-slice-write-out Inv-loop μ-loop
 slice-write-out c = omega arith
-
-add-i : tie.Need-add-i Inv-loop μ-loop
-add-i c = search needs
 
 loop-less : tie.Need-loop-less Inv-loop μ-loop
 loop-less c = search needs
@@ -88,17 +64,17 @@ put-pixels-spec =
     (tie.spec
     Inv-loop
     μ-loop
-    byte-count-requires
-    add-end
-    sub-tile
-    part-tile-start
-    part-tile-end
-    pixel-count-requires
+    (λ c κs. search needs)
+    (λ c. search needs)
+    (λ c. search needs)
+    (λ c. search needs)
+    (λ c. search needs)
+    (λ c κs. search needs)
     loop-holds
     unpacked-pixel-requires
-    add-out
+    (λ c. search needs)
     slice-write-out
-    add-i
+    (λ c. search needs)
     loop-less
     loop-again
     same-length

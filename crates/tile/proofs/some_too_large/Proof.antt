@@ -5,7 +5,7 @@ use mathlib.Core.Bool.{false}
 use Prim.Native.Nat.{ℕ, _^_, _<_, _≤_, _-_}
 use native.Mathlib.Numerals.{add-one}
 use native.Mathlib.Omega.{arith}
-use lib.ListN.{getD, length}
+use lib.ListN.{getD}
 use borrow.Author.Tests.{le-leb, lt-leb}
 use borrow.Author.Needs.{needs}
 use Rattle.words.specs.Loops.{some}
@@ -26,26 +26,14 @@ returns c =
     let a = c .before .before .args in
     sym (all-small (a .count) (a .depth) (a .pixels .now) (λ i l. subst (λ (d : ℕ). getD (a .pixels .now) i 0 < 2 ^ d) (sym (c .if1 .taken)) (omega (arith, c .before .shared-slice-known .given i))))
 
-up-requires : tie.Need-up-requires Inv-loop μ-loop
-up-requires c κs = search needs
-
 loop-holds : tie.Need-loop-holds Inv-loop μ-loop
 loop-holds c = (omega arith, refl)
-
-shared-slice-read-wide : tie.Need-shared-slice-read-wide Inv-loop μ-loop
-shared-slice-read-wide c = search needs
-
-wide-requires : tie.Need-wide-requires Inv-loop μ-loop
-wide-requires c κs = search needs
 
 returns-2 : tie.Need-returns-2 Inv-loop μ-loop
 returns-2 c =
     let a = c .before .before .before .before .before .before .before .before .args in
     let i = c .before .before .before .before .loop .i in
     sym (some-true (a .count) (tooLarge (a .depth) (a .pixels .now)) i (c .before .before .before .loop-test .taken) (le-leb (2 ^ a .depth) (getD (a .pixels .now) i 0) (omega (arith, c .before .before .before .before .before .up .ensures, c .before .wide .ensures .0))))
-
-add-i : tie.Need-add-i Inv-loop μ-loop
-add-i c = search needs
 
 loop-less : tie.Need-loop-less Inv-loop μ-loop
 loop-less c = search needs
@@ -69,12 +57,12 @@ some-too-large-spec =
     Inv-loop
     μ-loop
     returns
-    up-requires
+    (λ c κs. search needs)
     loop-holds
-    shared-slice-read-wide
-    wide-requires
+    (λ c. search needs)
+    (λ c κs. search needs)
     returns-2
-    add-i
+    (λ c. search needs)
     loop-less
     loop-again
     returns-3)

@@ -79,9 +79,6 @@ loop-holds c =
 mul-v : tie.Need-mul-v Inv-loop μ-loop
 mul-v c = omega (arith, rising-space (c .before .loop .inv) (c .loop-test .taken) (omega arith))
 
-sub-v : tie.Need-sub-v Inv-loop μ-loop
-sub-v c = search needs
-
 mul-v-2 : tie.Need-mul-v-2 Inv-loop μ-loop
 mul-v-2 c =
     let s = c .before .before in
@@ -100,17 +97,8 @@ shared-slice-read-v c =
     let f = sprite-pixel-of (s .args .width) (s .args .height) (s .args .i) (s .pre .0) (s .pre .2) in
     omega arith
 
-cast-v : tie.Need-cast-v Inv-loop μ-loop
-cast-v c = search needs
-
-shr-v : tie.Need-shr-v Inv-loop μ-loop
-shr-v c = search needs
-
 add-v-2 : tie.Need-add-v-2 Inv-loop μ-loop
 add-v-2 c = omega (arith, rising-space (c .before .before .loop .inv) (c .before .loop-test .taken) (omega arith))
-
-add-n : tie.Need-add-n Inv-loop μ-loop
-add-n c = search needs
 
 loop-less : tie.Need-loop-less Inv-loop μ-loop
 loop-less c = search needs
@@ -139,14 +127,14 @@ sprite-pixel-spec =
     add-at-3
     loop-holds
     mul-v
-    sub-v
+    (λ c. search needs)
     mul-v-2
     add-v
     shared-slice-read-v
-    cast-v
-    shr-v
+    (λ c. search needs)
+    (λ c. search needs)
     add-v-2
-    add-n
+    (λ c. search needs)
     loop-less
     loop-again
     returns)

@@ -11,15 +11,9 @@ returns : tie.Need-returns
 unfolding tileSays
 returns c = rw (lt-ltb 15 _ (c .if1 .taken))
 
-has-depth-requires : tie.Need-has-depth-requires
-has-depth-requires c κs = search needs
-
 returns-2 : tie.Need-returns-2
 unfolding tileSays
 returns-2 c = rw (le-ltb 15 _ (c .before .before .if1 .left), sym (c .before .has-depth .ensures) ∙ not-true _ (c .if2 .taken))
-
-is-native-requires : tie.Need-is-native-requires
-is-native-requires c κs = search needs
 
 returns-3 : tie.Need-returns-3
 unfolding tileSays
@@ -32,4 +26,4 @@ returns-4 c = rw (le-ltb 15 _ (c .before .before .before .before .if1 .left), sy
 pub tile-says-spec : {M : Type 1} → statement M
 tile-says-spec =
     tie.close
-    (tie.spec returns has-depth-requires returns-2 is-native-requires returns-3 returns-4)
+    (tie.spec returns (λ c κs. search needs) returns-2 (λ c κs. search needs) returns-3 returns-4)

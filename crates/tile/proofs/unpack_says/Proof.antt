@@ -17,9 +17,6 @@ module _ (c : tie.Else1) where
   fits : Fitting (c .before .before .args .mode) (c .before .before .args .depth) (c .before .before .args .width) (c .before .before .args .height)
   fits = fitting (native-of (c .before .before .args .mode) (c .before .before .args .depth) (c .before .before .args .width) (c .before .before .args .height) allowed)
 
-tile-says-requires : tie.Need-tile-says-requires
-tile-says-requires c κs = search needs
-
 returns : tie.Need-returns
 returns c =
     let a = c .before .before .args in
@@ -56,7 +53,7 @@ pub unpack-says-spec : {M : Type 1} → statement M
 unpack-says-spec =
     tie.close
     (tie.spec
-    tile-says-requires
+    (λ c κs. search needs)
     returns
     mul-size
     mul-if2

@@ -17,12 +17,6 @@ accepted : (c : tie.Else1) → let a = c .before .before .before .before .args i
     unpackSays (a .mode) (a .depth) (a .width) (a .height) (length (now (a .bytes))) (length (now (a .out))) ≡ 0
 accepted c = sym (c .before .unpack-says .ensures) ∙ c .if1 .left
 
-unpack-says-requires : tie.Need-unpack-says-requires
-unpack-says-requires c κs = search needs
-
-refused-requires : tie.Need-refused-requires
-refused-requires c κs = search needs
-
 returns : tie.Need-returns
 returns c = refuse (c .before .before .unpack-says .result) (c .before .before .unpack-says .ensures) (c .before .if1 .taken) (c .refused .ensures) refl
 
@@ -41,9 +35,6 @@ pixel-count-requires c κs =
     let a = c .before .before .before .before .before .before .before .before .before .args in
     unpack-asks (a .mode) (a .depth) (a .width) (a .height) (now (a .bytes)) (now (a .out)) (c .before .before .before .before .packing-of .ensures) (accepted (c .before .before .before .before .before)) .sound
 
-same-length : tie.Need-same-length
-same-length c = search needs
-
 returns-2 : tie.Need-returns-2
 returns-2 c =
     let a = c .before .before .before .before .before .before .before .before .before .before .args in
@@ -57,11 +48,11 @@ pub unpack-tile-spec : {M : Type 1} → statement M
 unpack-tile-spec =
     tie.close
     (tie.spec
-    unpack-says-requires
-    refused-requires
+    (λ c κs. search needs)
+    (λ c κs. search needs)
     returns
     packing-of-requires
     put-pixels-requires
     pixel-count-requires
-    same-length
+    (λ c. search needs)
     returns-2)

@@ -8,49 +8,31 @@ use Rattle.tile.proofs.Packings.{planes-of, has-pixel, same-pixel}
 use Rattle.tile.proofs.unpacked_pixel.Statement.{statement}
 use Rattle.tile.proofs.unpacked_pixel.Tie as tie
 
-enum-known-p : tie.Need-enum-known-p
-enum-known-p c = search needs
-
 planar-pixel-requires : tie.Need-planar-pixel-requires
 planar-pixel-requires c κs =
     let t = c .before .p .given in
     let h = has-pixel (Planar (t .0 .0) (t .0 .1 .0)) (t .1) (c .before .before .before .before .pre) in
     (planes-of _ _ (h .sound), h .whole, h .within)
 
-enum-told : tie.Need-enum-told
-enum-told c = search needs
-
 ngp-pixel-requires : tie.Need-ngp-pixel-requires
 ngp-pixel-requires c κs =
     let h = has-pixel Ngp (c .enum-told .given .1) (c .before .before .before .pre) in
     (h .whole, h .within)
-
-enum-told-2 : tie.Need-enum-told-2
-enum-told-2 c = search needs
 
 low-first-pixel-requires : tie.Need-low-first-pixel-requires
 low-first-pixel-requires c κs =
     let h = has-pixel LowFirst (c .enum-told2 .given .1) (c .before .before .before .pre) in
     (h .whole, h .within)
 
-enum-told-3 : tie.Need-enum-told-3
-enum-told-3 c = search needs
-
 high-first-pixel-requires : tie.Need-high-first-pixel-requires
 high-first-pixel-requires c κs =
     let h = has-pixel HighFirst (c .enum-told3 .given .1) (c .before .before .before .pre) in
     (h .whole, h .within)
 
-enum-told-4 : tie.Need-enum-told-4
-enum-told-4 c = search needs
-
 plain-pixel-requires : tie.Need-plain-pixel-requires
 plain-pixel-requires c κs =
     let h = has-pixel Plain (c .enum-told4 .given .1) (c .before .before .before .pre) in
     omega arith
-
-enum-known-p-2 : tie.Need-enum-known-p-2
-enum-known-p-2 c = search needs
 
 sprite-pixel-requires : tie.Need-sprite-pixel-requires
 sprite-pixel-requires c κs =
@@ -94,17 +76,17 @@ pub unpacked-pixel-spec : {M : Type 1} → statement M
 unpacked-pixel-spec =
     tie.close
     (tie.spec
-    enum-known-p
+    (λ c. search needs)
     planar-pixel-requires
-    enum-told
+    (λ c. search needs)
     ngp-pixel-requires
-    enum-told-2
+    (λ c. search needs)
     low-first-pixel-requires
-    enum-told-3
+    (λ c. search needs)
     high-first-pixel-requires
-    enum-told-4
+    (λ c. search needs)
     plain-pixel-requires
-    enum-known-p-2
+    (λ c. search needs)
     sprite-pixel-requires
     returns
     returns-2

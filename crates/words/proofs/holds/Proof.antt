@@ -7,11 +7,8 @@ use borrow.Author.Needs.{needs}
 use Rattle.words.proofs.holds.Statement.{statement}
 use Rattle.words.proofs.holds.Tie as tie
 
-down-requires : tie.Need-down-requires
-down-requires c κs = search needs
-
 returns : tie.Need-returns
 returns c = ap (λ (n : ℕ). eqb n 0) (c .down .ensures) ∙ holds-law (c .before .args .x) (c .before .args .bits)
 
 pub holds-spec : {M : Type 1} → statement M
-holds-spec = tie.close (tie.spec down-requires returns)
+holds-spec = tie.close (tie.spec (λ c κs. search needs) returns)

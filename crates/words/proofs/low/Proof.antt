@@ -12,9 +12,6 @@ use Rattle.words.proofs.low.Tie as tie
 power : (c : tie.Start) → 1 * 2 ^ (c .args .bits) % 4294967296 ≡ 2 ^ (c .args .bits)
 power c = rw one-mul (mod-eq-of-lt (pow-lt {j = 32} (c .pre)))
 
-shl-result : tie.Need-shl-result
-shl-result c = search needs
-
 sub-result : tie.Need-sub-result
 sub-result c = rw (power c) (pow-pos (c .args .bits))
 
@@ -22,4 +19,4 @@ returns : tie.Need-returns
 returns c = rw (power c) (and-mask (c .args .x) (c .args .bits))
 
 pub low-spec : {M : Type 1} → statement M
-low-spec = tie.close (tie.spec shl-result sub-result returns)
+low-spec = tie.close (tie.spec (λ c. search needs) sub-result returns)

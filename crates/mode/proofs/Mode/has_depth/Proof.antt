@@ -8,25 +8,10 @@ use borrow.Author.Needs.{needs}
 use Rattle.mode.proofs.Mode.has_depth.Statement.{statement}
 use Rattle.mode.proofs.Mode.has_depth.Tie as tie
 
-row-requires : tie.Need-row-requires
-row-requires c κs = search needs
-
-array-read-wide : tie.Need-array-read-wide
-array-read-wide c = search needs
-
-wide-requires : tie.Need-wide-requires
-wide-requires c κs = search needs
-
 returns : tie.Need-returns
 returns c =
     let s = c .before .before .before in
     first-depth (s .args .self .0) (s .args .depth) (s .pre) (c .if1 .taken ∙ read-off 0 (c .before .wide .ensures .0) (c .before .before .row .ensures))
-
-array-read-wide-2 : tie.Need-array-read-wide-2
-array-read-wide-2 c = search needs
-
-wide-requires-2 : tie.Need-wide-requires-2
-wide-requires-2 c κs = search needs
 
 returns-2 : tie.Need-returns-2
 returns-2 c =
@@ -35,12 +20,6 @@ returns-2 c =
     second-depth (s .args .self .0) (s .args .depth) (s .pre)
     (λ e. c .before .before .if1 .left (e ∙ sym (read-off 0 (c .before .before .before .wide .ensures .0) row-is)))
     (c .if2 .taken ∙ read-off 1 (c .before .wide2 .ensures .0) row-is)
-
-array-read-wide-3 : tie.Need-array-read-wide-3
-array-read-wide-3 c = search needs
-
-wide-requires-3 : tie.Need-wide-requires-3
-wide-requires-3 c κs = search needs
 
 returns-3 : tie.Need-returns-3
 returns-3 c =
@@ -55,13 +34,13 @@ pub has-depth-spec : {M : Type 1} → statement M
 has-depth-spec =
     tie.close
     (tie.spec
-    row-requires
-    array-read-wide
-    wide-requires
+    (λ c κs. search needs)
+    (λ c. search needs)
+    (λ c κs. search needs)
     returns
-    array-read-wide-2
-    wide-requires-2
+    (λ c. search needs)
+    (λ c κs. search needs)
     returns-2
-    array-read-wide-3
-    wide-requires-3
+    (λ c. search needs)
+    (λ c κs. search needs)
     returns-3)

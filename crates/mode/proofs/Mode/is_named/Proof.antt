@@ -11,21 +11,6 @@ use borrow.Author.Needs.{needs}
 use Rattle.mode.proofs.Mode.is_named.Statement.{statement}
 use Rattle.mode.proofs.Mode.is_named.Tie as tie
 
-cast-m : tie.Need-cast-m
-cast-m c = search needs
-
-mul-name : tie.Need-mul-name
-mul-name c = search needs
-
-array-copy-out-name : tie.Need-array-copy-out-name
-array-copy-out-name c = search needs
-
-mul-n : tie.Need-mul-n
-mul-n c = search needs
-
-array-read-n : tie.Need-array-read-n
-array-read-n c = search needs
-
 array-share-prefix-name : tie.Need-array-share-prefix-name
 array-share-prefix-name c = name-inside (c .before .before .before .args .self .0) (c .before .before .before .pre)
 
@@ -33,9 +18,6 @@ slice-aggregate-same-bytes : tie.Need-slice-aggregate-same-bytes
 slice-aggregate-same-bytes c =
     let m = c .before .before .before .before .args .self .0 in
     sym (length-take-le (getD lengths m 0) (getD padded m []) (name-inside m (c .before .before .before .before .pre)))
-
-same-bytes-requires : tie.Need-same-bytes-requires
-same-bytes-requires c κs = search needs
 
 returns : tie.Need-returns
 returns c =
@@ -46,12 +28,12 @@ pub is-named-spec : {M : Type 1} → statement M
 is-named-spec =
     tie.close
     (tie.spec
-    cast-m
-    mul-name
-    array-copy-out-name
-    mul-n
-    array-read-n
+    (λ c. search needs)
+    (λ c. search needs)
+    (λ c. search needs)
+    (λ c. search needs)
+    (λ c. search needs)
     array-share-prefix-name
     slice-aggregate-same-bytes
-    same-bytes-requires
+    (λ c κs. search needs)
     returns)

@@ -14,9 +14,6 @@ use Rattle.tileset.proofs.adding.add.Tie as tie
 fine : (c : tie.Else1) → let a = c .before .before .before .before .args in lookSays (a .set) (length (now (a .store))) (length (now (a .pixels))) ≡ 0
 fine c = sym (c .before .look-says .ensures) ∙ c .if1 .left
 
-look-says-requires : tie.Need-look-says-requires
-look-says-requires c κs = search needs
-
 returns : tie.Need-returns
 returns c =
     let a = c .before .before .before .before .args in
@@ -24,9 +21,6 @@ returns c =
 
 append-requires : tie.Need-append-requires
 append-requires c κs = looks-of _ _ _ (fine (c .before .before .before))
-
-same-length : tie.Need-same-length
-same-length c = search needs
 
 returns-2 : tie.Need-returns-2
 returns-2 c =
@@ -39,17 +33,8 @@ returns-2 c =
 found-in-requires : tie.Need-found-in-requires
 found-in-requires c κs = looks-of _ _ _ (fine (c .before .before .before))
 
-enum-told : tie.Need-enum-told
-enum-told c = search needs
-
-enum-told-2 : tie.Need-enum-told-2
-enum-told-2 c = search needs
-
 append-requires-2 : tie.Need-append-requires-2
 append-requires-2 c κs = looks-of _ _ _ (fine (c .before .before .before .before .before .before .before))
-
-same-length-2 : tie.Need-same-length-2
-same-length-2 c = search needs
 
 returns-3 : tie.Need-returns-3
 returns-3 c =
@@ -59,12 +44,6 @@ returns-3 c =
     let a = first .before .before .before .before .args in
     store-add (a .set) (now (a .store)) (now (a .pixels)) (fine first)
     (discards-new (a .set) (foundIn (a .set) (now (a .store)) (now (a .pixels))) (sym (looked .found-in .ensures) ∙ told .enum-told2 .given .1)) (c .before .before .append2 .ensures)
-
-discard-requires : tie.Need-discard-requires
-discard-requires c κs = search needs
-
-same-length-3 : tie.Need-same-length-3
-same-length-3 c = search needs
 
 returns-4 : tie.Need-returns-4
 returns-4 c =
@@ -81,17 +60,17 @@ pub add-spec : {M : Type 1} → statement M
 add-spec =
     tie.close
     (tie.spec
-    look-says-requires
+    (λ c κs. search needs)
     returns
     append-requires
-    same-length
+    (λ c. search needs)
     returns-2
     found-in-requires
-    enum-told
-    enum-told-2
+    (λ c. search needs)
+    (λ c. search needs)
     append-requires-2
-    same-length-2
+    (λ c. search needs)
     returns-3
-    discard-requires
-    same-length-3
+    (λ c κs. search needs)
+    (λ c. search needs)
     returns-4)

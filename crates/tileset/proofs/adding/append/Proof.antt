@@ -32,14 +32,8 @@ fits c =
     room-left (a .set .limit) (length (now (a .store))) (length (now (a .pixels))) (a .set .stored) (some-pixels start)
     (omega (arith, c .before .before .set-room .ensures, c .before .if1 .left))
 
-cast-count : tie.Need-cast-count
-cast-count c = search needs
-
 div-set-room : tie.Need-div-set-room
 div-set-room c = some-pixels (c .before .before .before)
-
-set-room-requires : tie.Need-set-room-requires
-set-room-requires c κs = search needs
 
 returns : tie.Need-returns
 returns c =
@@ -51,12 +45,6 @@ mul-put-cut c = omega (arith, fits c)
 
 put-cut-requires : tie.Need-put-cut-requires
 put-cut-requires c κs = record { deep = c .before .before .before .before .before .before .pre .deep; inside = fits c }
-
-add-next : tie.Need-add-next
-add-next c = search needs
-
-same-length : tie.Need-same-length
-same-length c = search needs
 
 returns-2 : tie.Need-returns-2
 returns-2 c =
@@ -71,12 +59,12 @@ pub append-spec : {M : Type 1} → statement M
 append-spec =
     tie.close
     (tie.spec
-    cast-count
+    (λ c. search needs)
     div-set-room
-    set-room-requires
+    (λ c κs. search needs)
     returns
     mul-put-cut
     put-cut-requires
-    add-next
-    same-length
+    (λ c. search needs)
+    (λ c. search needs)
     returns-2)

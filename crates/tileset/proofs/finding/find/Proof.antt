@@ -37,9 +37,6 @@ mul-n c = omega (arith, c .before .before .pre .small)
 loop-holds : tie.Need-loop-holds Inv-loop μ-loop
 loop-holds c = (refl, search needs, look-start _ _ _ _ _ _ _)
 
-cast-match-flip : tie.Need-cast-match-flip Inv-loop μ-loop
-cast-match-flip c = search needs
-
 mul-match-flip : tie.Need-mul-match-flip Inv-loop μ-loop
 mul-match-flip c = omega (arith, inside c)
 
@@ -47,15 +44,6 @@ match-flip-requires : tie.Need-match-flip-requires Inv-loop μ-loop
 match-flip-requires c κs =
     let s = start c in
     record { some = s .pre .some; eights = s .pre .eights; inside = inside c; whole = s .pre .whole }
-
-enum-known-f : tie.Need-enum-known-f Inv-loop μ-loop
-enum-known-f c = search needs
-
-enum-told : tie.Need-enum-told Inv-loop μ-loop
-enum-told c = search needs
-
-add-k : tie.Need-add-k Inv-loop μ-loop
-add-k c = search needs
 
 loop-less : tie.Need-loop-less Inv-loop μ-loop
 loop-less c = search needs
@@ -88,12 +76,12 @@ find-spec =
     μ-loop
     mul-n
     loop-holds
-    cast-match-flip
+    (λ c. search needs)
     mul-match-flip
     match-flip-requires
-    enum-known-f
-    enum-told
-    add-k
+    (λ c. search needs)
+    (λ c. search needs)
+    (λ c. search needs)
     loop-less
     loop-again
     returns

@@ -25,23 +25,8 @@ module _ (c : tie.After-put-cut) where
   tile-is : take (length pixels) (c .put-cut .last .1 .1 .0) ≡ cutTo (start .args .set .depth) pixels
   tile-is = ap (take (length pixels)) (c .put-cut .ensures) ∙ cut-front (start .args .set .depth) pixels _ (omega (arith, short))
 
-slice-aggregate-put-cut : tie.Need-slice-aggregate-put-cut
-slice-aggregate-put-cut c = search needs
-
-put-cut-requires : tie.Need-put-cut-requires
-put-cut-requires c κs = search needs
-
-array-share-prefix-tile : tie.Need-array-share-prefix-tile
-array-share-prefix-tile c = search needs
-
 slice-aggregate-find : tie.Need-slice-aggregate-find
 slice-aggregate-find c = simp length-take (omega (arith, short (c .before .before)))
-
-cast-find : tie.Need-cast-find
-cast-find c = search needs
-
-cast-find-2 : tie.Need-cast-find-2
-cast-find-2 c = search needs
 
 find-requires : tie.Need-find-requires
 find-requires c κs =
@@ -67,11 +52,11 @@ pub found-in-spec : {M : Type 1} → statement M
 found-in-spec =
     tie.close
     (tie.spec
-    slice-aggregate-put-cut
-    put-cut-requires
-    array-share-prefix-tile
+    (λ c. search needs)
+    (λ c κs. search needs)
+    (λ c. search needs)
     slice-aggregate-find
-    cast-find
-    cast-find-2
+    (λ c. search needs)
+    (λ c. search needs)
     find-requires
     returns)

@@ -7,12 +7,6 @@ use Rattle.tileset.proofs.Says.{refused-place, done-place, looks-of}
 use Rattle.tileset.proofs.finding.look_up.Statement.{statement}
 use Rattle.tileset.proofs.finding.look_up.Tie as tie
 
-look-says-requires : tie.Need-look-says-requires
-look-says-requires c κs = search needs
-
-no-place-requires : tie.Need-no-place-requires
-no-place-requires c κs = search needs
-
 returns : tie.Need-returns
 returns c =
     let said = c .before .before in
@@ -22,9 +16,6 @@ returns c =
 
 found-in-requires : tie.Need-found-in-requires
 found-in-requires c κs = looks-of _ _ _ (sym (c .before .look-says .ensures) ∙ c .if1 .left)
-
-place-of-requires : tie.Need-place-of-requires
-place-of-requires c κs = search needs
 
 returns-2 : tie.Need-returns-2
 returns-2 c =
@@ -37,9 +28,9 @@ pub look-up-spec : {M : Type 1} → statement M
 look-up-spec =
     tie.close
     (tie.spec
-    look-says-requires
-    no-place-requires
+    (λ c κs. search needs)
+    (λ c κs. search needs)
     returns
     found-in-requires
-    place-of-requires
+    (λ c κs. search needs)
     returns-2)

@@ -6,15 +6,6 @@ use Rattle.tileset.specs.Finding.{placeOf}
 use Rattle.tileset.proofs.finding.place_of.Statement.{statement}
 use Rattle.tileset.proofs.finding.place_of.Tie as tie
 
-enum-known-found : tie.Need-enum-known-found
-enum-known-found c = search needs
-
-enum-told : tie.Need-enum-told
-enum-told c = search needs
-
-no-place-requires : tie.Need-no-place-requires
-no-place-requires c κs = search needs
-
 returns : tie.Need-returns
 returns c = c .no-place .ensures ∙ sym (ap placeOf (c .before .enum-told .given .1))
 
@@ -24,4 +15,4 @@ returns-2 c =
     sym (ap placeOf e)
 
 pub place-of-spec : {M : Type 1} → statement M
-place-of-spec = tie.close (tie.spec enum-known-found enum-told no-place-requires returns returns-2)
+place-of-spec = tie.close (tie.spec (λ c. search needs) (λ c. search needs) (λ c κs. search needs) returns returns-2)

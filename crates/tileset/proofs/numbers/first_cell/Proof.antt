@@ -11,12 +11,6 @@ use Rattle.tileset.proofs.numbers.first_cell.Tie as tie
 grid : (c : tie.After-row-cells) → Grid (c .row-cells .result) (c .before .args .width / 8) (c .before .args .height / 8)
 grid c = grid-at (c .before .pre .0) (c .row-cells .ensures)
 
-row-cells-requires : tie.Need-row-cells-requires
-row-cells-requires c κs = search needs
-
-div-tiles : tie.Need-div-tiles
-div-tiles c = search needs
-
 div-t9 : tie.Need-div-t9
 div-t9 c = grid c .tiles
 
@@ -42,4 +36,4 @@ returns c = rw (sym (c .row-cells .ensures))
 pub first-cell-spec : {M : Type 1} → statement M
 first-cell-spec =
     tie.close
-    (tie.spec row-cells-requires div-tiles div-t9 mul-t11 mul-t12 rem-t13 mul-t14 add-t15 returns)
+    (tie.spec (λ c κs. search needs) (λ c. search needs) div-t9 mul-t11 mul-t12 rem-t13 mul-t14 add-t15 returns)

@@ -27,17 +27,11 @@ returns-2 : tie.Need-returns-2
 unfolding gridSays
 returns-2 c = rw (le-ltb 15 _ (c .before .before .if1 .left), eq-eqb _ pce-sprite (c .if2 .taken))
 
-is-width-requires : tie.Need-is-width-requires
-is-width-requires c κs = search needs
-
 returns-3 : tie.Need-returns-3
 unfolding gridSays
 returns-3 c =
     let e = c .before .before in
     rw (known e, sym (c .before .is-width .ensures) ∙ not-true (c .before .is-width .result) (c .if3 .taken), other e)
-
-is-height-requires : tie.Need-is-height-requires
-is-height-requires c κs = search needs
 
 returns-4 : tie.Need-returns-4
 unfolding gridSays
@@ -56,4 +50,4 @@ returns-5 c =
 pub grid-says-spec : {M : Type 1} → statement M
 grid-says-spec =
     tie.close
-    (tie.spec returns returns-2 is-width-requires returns-3 is-height-requires returns-4 returns-5)
+    (tie.spec returns returns-2 (λ c κs. search needs) returns-3 (λ c κs. search needs) returns-4 returns-5)

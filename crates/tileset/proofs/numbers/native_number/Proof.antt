@@ -14,9 +14,6 @@ use Rattle.tileset.proofs.numbers.native_number.Tie as tie
 passed : (c : tie.Else1) → let a = c .before .before .args in gridSays (a .mode) (a .width) (a .height) ≡ 0
 passed c = sym (c .before .grid-says .ensures) ∙ c .if1 .left
 
-grid-says-requires : tie.Need-grid-says-requires
-grid-says-requires c κs = search needs
-
 returns : tie.Need-returns
 returns c =
     let n = c .before .grid-says .result in
@@ -35,4 +32,4 @@ returns-3 c =
 
 pub native-number-spec : {M : Type 1} → statement M
 native-number-spec =
-    tie.close (tie.spec grid-says-requires returns returns-2 first-cell-requires returns-3)
+    tie.close (tie.spec (λ c κs. search needs) returns returns-2 first-cell-requires returns-3)

@@ -8,12 +8,12 @@ use lib.Seq.{sets}
 use denote.Ref.{now}
 use borrow.Author.Needs.{needs}
 use Rattle.words.specs.Answers.{overwrite}
-use Rattle.words.proofs.Filling.{Filled, filled-none, filled-front}
+use Rattle.words.proofs.Filling.{Filled, filled-none, filled-front, filled-next}
 use Rattle.tile.proofs.Native.{Native}
 use Rattle.tileset.specs.Reading.{tileIn, readCount, readPixels}
 use Rattle.tileset.specs.Inner.{cellsIn}
 use Rattle.tileset.proofs.Sizes.{IsSet, set-of}
-use Rattle.tileset.proofs.WritingLaws.{item-space, native-cell, front-more}
+use Rattle.tileset.proofs.WritingLaws.{item-space, native-cell}
 use Rattle.tileset.proofs.ReadingLaws.{tile-inside, tile-length, cells-long, rows-are}
 use Rattle.tileset.proofs.reading.put_read.Statement.{statement}
 use Rattle.tileset.proofs.reading.put_read.Tie as tie
@@ -59,9 +59,6 @@ module _ (c : tie.After-unpack-cells Inv-loop μ-loop) where
 loop-holds : tie.Need-loop-holds Inv-loop μ-loop
 loop-holds c = (search needs, (refl, filled-none _ _ _))
 
-slice-aggregate-unpack-cells : tie.Need-slice-aggregate-unpack-cells Inv-loop μ-loop
-slice-aggregate-unpack-cells c = search needs
-
 unpack-cells-requires : tie.Need-unpack-cells-requires Inv-loop μ-loop
 unpack-cells-requires c κs =
     let i = c .before in
@@ -72,12 +69,6 @@ unpack-cells-requires c κs =
       inside = tile-inside (sound (s i)) (length (bytes (s i))) (n i) (omega (arith, s i .pre .is, i .loop-test .taken));
       long = i .before .loop .inv .1 .0;
     }
-
-slice-aggregate-put-rows : tie.Need-slice-aggregate-put-rows Inv-loop μ-loop
-slice-aggregate-put-rows c = search needs
-
-cast-put-rows : tie.Need-cast-put-rows Inv-loop μ-loop
-cast-put-rows c = search needs
 
 mul-put-rows : tie.Need-mul-put-rows Inv-loop μ-loop
 mul-put-rows c = omega (arith, sound (s (l (c .before .before .before))) .small)
@@ -96,9 +87,6 @@ put-rows-requires c κs =
       space = omega (arith, here (l u), l u .before .loop .inv .1 .1 .long);
     }
 
-add-n : tie.Need-add-n Inv-loop μ-loop
-add-n c = search needs
-
 loop-less : tie.Need-loop-less Inv-loop μ-loop
 loop-less c = search needs
 
@@ -110,15 +98,12 @@ loop-again c =
       search needs,
       (
         long u _ (u .unpack-cells .ensures),
-        front-more area (tile-length _ _ _ _ (bytes (s i))) (i .before .loop .inv .1 .1)
+        filled-next area (tile-length _ _ _ _ (bytes (s i))) (i .before .loop .inv .1 .1)
             (c .before .before .put-rows .ensures
             ∙ ap (λ (x : List ℕ). sets (i .before .loop .store) (n i * area) x)
             (rows-are (sound (s i)) (cell-native (s i)) (bytes (s i)) _ (n i) _ (u .unpack-cells .ensures))),
       ),
     )
-
-same-length : tie.Need-same-length Inv-loop μ-loop
-same-length c = search needs
 
 returns : tie.Need-returns Inv-loop μ-loop
 unfolding readPixels
@@ -135,15 +120,15 @@ put-read-spec =
     Inv-loop
     μ-loop
     loop-holds
-    slice-aggregate-unpack-cells
+    (λ c. search needs)
     unpack-cells-requires
-    slice-aggregate-put-rows
-    cast-put-rows
+    (λ c. search needs)
+    (λ c. search needs)
     mul-put-rows
     mul-put-rows-2
     put-rows-requires
-    add-n
+    (λ c. search needs)
     loop-less
     loop-again
-    same-length
+    (λ c. search needs)
     returns)

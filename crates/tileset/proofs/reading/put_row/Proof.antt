@@ -33,9 +33,6 @@ near c =
 mul-above : tie.Need-mul-above Inv-loop μ-loop
 mul-above c = omega (arith, cells-few c)
 
-mul-down : tie.Need-mul-down Inv-loop μ-loop
-mul-down c = search needs
-
 loop-holds : tie.Need-loop-holds Inv-loop μ-loop
 loop-holds c = (search needs, filled-none _ _ _)
 
@@ -60,9 +57,6 @@ add-out-4 c = omega (arith, c .before .before .before .pre .space)
 slice-write-out : tie.Need-slice-write-out Inv-loop μ-loop
 slice-write-out c = omega (arith, c .before .before .before .pre .space, c .before .before .loop .inv .1 .long, c .before .loop-test .taken)
 
-add-x : tie.Need-add-x Inv-loop μ-loop
-add-x c = search needs
-
 loop-less : tie.Need-loop-less Inv-loop μ-loop
 loop-less c = search needs
 
@@ -82,7 +76,7 @@ put-row-spec =
     Inv-loop
     μ-loop
     mul-above
-    mul-down
+    (λ c. search needs)
     loop-holds
     add-out
     mul-out
@@ -91,7 +85,7 @@ put-row-spec =
     shared-slice-read-out
     add-out-4
     slice-write-out
-    add-x
+    (λ c. search needs)
     loop-less
     loop-again
     same-length

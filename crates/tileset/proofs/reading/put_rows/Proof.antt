@@ -46,9 +46,6 @@ put-row-requires c κs =
       space = omega (arith, here l, l .before .loop .inv .1 .long);
     }
 
-add-y : tie.Need-add-y Inv-loop μ-loop
-add-y c = search needs
-
 loop-less : tie.Need-loop-less Inv-loop μ-loop
 loop-less c = search needs
 
@@ -57,9 +54,6 @@ loop-again c =
     let l = c .before .before .before .before in
     let a = s l .args in
     (search needs, filled-more (a .width) (row-length (a .width) (now (a .cells))) (l .before .loop .inv .1) (c .before .before .put-row .ensures))
-
-same-length : tie.Need-same-length Inv-loop μ-loop
-same-length c = search needs
 
 returns : tie.Need-returns Inv-loop μ-loop
 returns c = filled-all (c .before .before .before .before .args .height) (c .before .loop .inv .1) (omega arith)
@@ -74,8 +68,8 @@ put-rows-spec =
     mul-put-row
     add-put-row
     put-row-requires
-    add-y
+    (λ c. search needs)
     loop-less
     loop-again
-    same-length
+    (λ c. search needs)
     returns)

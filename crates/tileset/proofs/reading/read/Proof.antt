@@ -24,9 +24,6 @@ module _ (c : tie.Else1) where
   few : let a = s .args in readCount (a .mode) (a .depth) (a .width) (a .height) (length (now (a .bytes))) ≤ 65535
   few = let a = s .args in read-few (a .mode) (a .depth) (a .width) (a .height) (length (now (a .bytes))) (length (now (a .store))) accepted
 
-read-says-requires : tie.Need-read-says-requires
-read-says-requires c κs = search needs
-
 returns : tie.Need-returns
 returns c =
     let a = c .before .before .before .before .args in
@@ -52,9 +49,6 @@ put-read-requires c κs =
       space = rw (n .ensures) (read-space (a .mode) (a .depth) (a .width) (a .height) (length (now (a .bytes))) (length (now (a .store))) (accepted e));
     }
 
-same-length : tie.Need-same-length
-same-length c = search needs
-
 returns-2 : tie.Need-returns-2
 returns-2 c =
     let n = c .before .before .before .before in
@@ -66,10 +60,10 @@ pub read-spec : {M : Type 1} → statement M
 read-spec =
     tie.close
     (tie.spec
-    read-says-requires
+    (λ c κs. search needs)
     returns
     read-count-requires
     cast-count
     put-read-requires
-    same-length
+    (λ c. search needs)
     returns-2)

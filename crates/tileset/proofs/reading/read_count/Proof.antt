@@ -12,23 +12,8 @@ use Rattle.tileset.proofs.reading.read_count.Tie as tie
 sound : (c : tie.Start) → IsSet (c .args .mode) (c .args .depth) (c .args .width) (c .args .height)
 sound c = set-of _ _ _ _ (c .pre .0)
 
-row-cells-requires : tie.Need-row-cells-requires
-row-cells-requires c κs = search needs
-
-cast-row : tie.Need-cast-row
-cast-row c = search needs
-
-cast-across : tie.Need-cast-across
-cast-across c = search needs
-
-cast-down : tie.Need-cast-down
-cast-down c = search needs
-
 mul-size : tie.Need-mul-size
 mul-size c = omega (arith, sound (c .before) .deep)
-
-cast-size : tie.Need-cast-size
-cast-size c = search needs
 
 div-whole-tiles : tie.Need-div-whole-tiles
 div-whole-tiles c = omega (arith, bits-some (sound (c .before)))
@@ -45,12 +30,12 @@ pub read-count-spec : {M : Type 1} → statement M
 read-count-spec =
     tie.close
     (tie.spec
-    row-cells-requires
-    cast-row
-    cast-across
-    cast-down
+    (λ c κs. search needs)
+    (λ c. search needs)
+    (λ c. search needs)
+    (λ c. search needs)
     mul-size
-    cast-size
+    (λ c. search needs)
     div-whole-tiles
     whole-tiles-requires
     returns)

@@ -20,9 +20,6 @@ module _ (c : tie.Else1) where
   some : let a = c .before .before .args in 0 < a .width * a .height
   some = mul-pos (sound .some) (sound .tall)
 
-readable-says-requires : tie.Need-readable-says-requires
-readable-says-requires c κs = search needs
-
 returns : tie.Need-returns
 returns c =
     let n = c .before .readable-says in
@@ -30,9 +27,6 @@ returns c =
 
 mul-size : tie.Need-mul-size
 mul-size c = omega (arith, sound c .deep)
-
-cast-size : tie.Need-cast-size
-cast-size c = search needs
 
 rem-if2 : tie.Need-rem-if2
 rem-if2 c = omega (arith, bits-some (sound c))
@@ -82,10 +76,10 @@ pub read-says-spec : {M : Type 1} → statement M
 read-says-spec =
     tie.close
     (tie.spec
-    readable-says-requires
+    (λ c κs. search needs)
     returns
     mul-size
-    cast-size
+    (λ c. search needs)
     rem-if2
     returns-2
     read-count-requires

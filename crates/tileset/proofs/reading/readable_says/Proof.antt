@@ -8,11 +8,8 @@ use Rattle.tileset.proofs.reading.readable_says.Tie as tie
 returns : tie.Need-returns
 returns c = readable-2 _ _ _ _ (c .if1 .taken)
 
-set-says-requires : tie.Need-set-says-requires
-set-says-requires c κs = search needs
-
 returns-2 : tie.Need-returns-2
 returns-2 c = c .set-says .ensures ∙ readable-set _ _ _ _ (c .before .if1 .left)
 
 pub readable-says-spec : {M : Type 1} → statement M
-readable-says-spec = tie.close (tie.spec returns set-says-requires returns-2)
+readable-says-spec = tie.close (tie.spec returns (λ c κs. search needs) returns-2)

@@ -10,12 +10,12 @@ use denote.Ref.{now}
 use borrow.Author.Needs.{needs}
 use Rattle.words.specs.Answers.{overwrite}
 use Rattle.words.specs.Loops.{each}
-use Rattle.words.proofs.Filling.{Filled, filled-none, filled-front}
+use Rattle.words.proofs.Filling.{Filled, filled-none, filled-front, filled-next}
 use Rattle.tile.proofs.Native.{Native}
 use Rattle.tileset.specs.Numbers.{rowCells, firstCell, Grid}
 use Rattle.tileset.specs.Reading.{cellIn}
 use Rattle.tileset.proofs.Sizes.{IsSet, set-of, grid-set}
-use Rattle.tileset.proofs.WritingLaws.{native-cell, front-more}
+use Rattle.tileset.proofs.WritingLaws.{native-cell}
 use Rattle.tileset.proofs.ReadingLaws.{cell-in-length, unpacks-at, unpacks-cell, cell-inside, cell-row-fits, cells-area, starts-few}
 use Rattle.tileset.proofs.reading.unpack_cells.Statement.{statement}
 use Rattle.tileset.proofs.reading.unpack_cells.Tie as tie
@@ -102,9 +102,6 @@ mul-size c = omega (arith, sound (c .before .before .before) .deep)
 cast-size : tie.Need-cast-size Inv-loop μ-loop
 cast-size c = omega (arith, sound (c .before .before .before) .deep)
 
-row-cells-requires : tie.Need-row-cells-requires Inv-loop μ-loop
-row-cells-requires c κs = search needs
-
 first-cell-requires : tie.Need-first-cell-requires Inv-loop μ-loop
 first-cell-requires c κs =
     let s = c .before .before .before .before in
@@ -130,9 +127,6 @@ rem-t22 c = grid (s (c .before)) .across
 
 add-t23 : tie.Need-add-t23 Inv-loop μ-loop
 add-t23 c = omega (arith, row-few (c .before), first-few (c .before), column-few (c .before))
-
-cast-put-pixels : tie.Need-cast-put-pixels Inv-loop μ-loop
-cast-put-pixels c = search needs
 
 mul-put-pixels : tie.Need-mul-put-pixels Inv-loop μ-loop
 mul-put-pixels c = omega (arith, from (c .before .before))
@@ -162,12 +156,9 @@ loop-again c =
     let l = c .before .before .before .before .before .before in
     let cell-is = unpacks-cell (cell-native (s l)) (f l .before .before .packing-of .ensures) (bytes (s l)) (cell l * size (s l)) in (
       search needs,
-      front-more 64 (size-is (s l) _ _) (l .before .loop .inv .1)
+      filled-next 64 (size-is (s l) _ _) (l .before .loop .inv .1)
           (c .before .before .put-pixels .ensures ∙ ap (λ (x : List ℕ). sets (l .before .loop .out) (i l * 64) x) cell-is),
     )
-
-same-length : tie.Need-same-length Inv-loop μ-loop
-same-length c = search needs
 
 returns : tie.Need-returns Inv-loop μ-loop
 returns c =
@@ -188,7 +179,7 @@ unpack-cells-spec =
     packing-of-requires
     mul-size
     cast-size
-    row-cells-requires
+    (λ c κs. search needs)
     first-cell-requires
     mul-count
     loop-holds
@@ -197,7 +188,7 @@ unpack-cells-spec =
     add-t21
     rem-t22
     add-t23
-    cast-put-pixels
+    (λ c. search needs)
     mul-put-pixels
     cast-put-pixels-2
     mul-put-pixels-2
@@ -205,5 +196,5 @@ unpack-cells-spec =
     add-i
     loop-less
     loop-again
-    same-length
+    (λ c. search needs)
     returns)

@@ -21,17 +21,11 @@ module _ (c : tie.Start) where
 mul-strip : tie.Need-mul-strip
 mul-strip c = omega (arith, strip-few c)
 
-sub-above : tie.Need-sub-above
-sub-above c = search needs
-
 mul-above : tie.Need-mul-above
 mul-above c = omega (arith, above-few c)
 
 div-whole : tie.Need-div-whole
 div-whole c = some c
-
-div-whole-2 : tie.Need-div-whole-2
-div-whole-2 c = search needs
 
 mul-whole : tie.Need-mul-whole
 mul-whole c = omega (arith, whole-fits _ _ _ (c .pre) (c .args .cells), div-add-mod' (c .args .cells) (c .args .down * c .args .row))
@@ -41,9 +35,6 @@ rem-rest c = some c
 
 returns : tie.Need-returns
 returns c = strips-only _ _ _ (c .before .pre) (c .before .args .cells) (c .if1 .taken)
-
-div-result : tie.Need-div-result
-div-result c = search needs
 
 add-result : tie.Need-add-result
 add-result c = omega (arith, count-fits _ _ _ (c .before .pre) (c .before .args .cells))
@@ -56,13 +47,13 @@ whole-tiles-spec =
     tie.close
     (tie.spec
     mul-strip
-    sub-above
+    (λ c. search needs)
     mul-above
     div-whole
-    div-whole-2
+    (λ c. search needs)
     mul-whole
     rem-rest
     returns
-    div-result
+    (λ c. search needs)
     add-result
     returns-2)

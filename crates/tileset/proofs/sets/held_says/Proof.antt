@@ -19,9 +19,6 @@ module _ (c : tie.Else1) where
   sound : IsSet (set .mode) (set .depth) (set .width) (set .height)
   sound = set-of _ _ _ _ fine
 
-set-says-requires : tie.Need-set-says-requires
-set-says-requires c κs = search needs
-
 returns : tie.Need-returns
 returns c = held-first (c .before .before .args .set) _ (c .before .set-says .result) (c .before .set-says .ensures) (c .if1 .taken)
 
@@ -33,12 +30,6 @@ cast-n c = omega (arith, sound (c .before) .small)
 
 div-set-room : tie.Need-div-set-room
 div-set-room c = mul-pos (sound (c .before) .some) (sound (c .before) .tall)
-
-set-room-requires : tie.Need-set-room-requires
-set-room-requires c κs = search needs
-
-cast-if2 : tie.Need-cast-if2
-cast-if2 c = search needs
 
 returns-2 : tie.Need-returns-2
 returns-2 c =
@@ -54,12 +45,12 @@ pub held-says-spec : {M : Type 1} → statement M
 held-says-spec =
     tie.close
     (tie.spec
-    set-says-requires
+    (λ c κs. search needs)
     returns
     mul-n
     cast-n
     div-set-room
-    set-room-requires
-    cast-if2
+    (λ c κs. search needs)
+    (λ c. search needs)
     returns-2
     returns-3)

@@ -9,18 +9,12 @@ use Rattle.tileset.proofs.sets.is_height.Tie as tie
 returns : tie.Need-returns
 returns c = rw (eq-eqb _ pce-sprite (c .before .if1 .taken), c .if2 .taken)
 
-is-side-requires : tie.Need-is-side-requires
-is-side-requires c κs = search needs
-
 returns-2 : tie.Need-returns-2
 returns-2 c = rw (eq-eqb _ pce-sprite (c .before .before .if1 .taken)) (c .is-side .ensures ∙ rw (ne-eqb _ 8 (c .before .if2 .left)))
-
-is-side-requires-2 : tie.Need-is-side-requires-2
-is-side-requires-2 c κs = search needs
 
 returns-3 : tie.Need-returns-3
 returns-3 c = rw (ne-eqb _ pce-sprite (c .before .if1 .left)) (c .is-side2 .ensures)
 
 pub is-height-spec : {M : Type 1} → statement M
 is-height-spec =
-    tie.close (tie.spec returns is-side-requires returns-2 is-side-requires-2 returns-3)
+    tie.close (tie.spec returns (λ c κs. search needs) returns-2 (λ c κs. search needs) returns-3)

@@ -9,9 +9,6 @@ use Rattle.mode.specs.Table.{snes}
 use Rattle.tileset.proofs.sets.is_width.Statement.{statement}
 use Rattle.tileset.proofs.sets.is_width.Tie as tie
 
-is-side-requires : tie.Need-is-side-requires
-is-side-requires c κs = search needs
-
 returns : tie.Need-returns
 returns c = rw (eq-eqb _ snes (c .before .if1 .taken)) (c .is-side .ensures)
 
@@ -29,4 +26,4 @@ returns-4 c =
     rw (ne-eqb _ snes (c .before .before .if1 .left), ne-eqb _ pce-sprite (c .if2 .left)) (sym (or-false (eqb (a .width) 8)))
 
 pub is-width-spec : {M : Type 1} → statement M
-is-width-spec = tie.close (tie.spec is-side-requires returns returns-2 returns-3 returns-4)
+is-width-spec = tie.close (tie.spec (λ c κs. search needs) returns returns-2 returns-3 returns-4)

@@ -19,9 +19,6 @@ module _ (c : tie.Else1) where
   sound : IsSet (set .mode) (set .depth) (set .width) (set .height)
   sound = held-set set _ held
 
-held-says-requires : tie.Need-held-says-requires
-held-says-requires c κs = search needs
-
 returns : tie.Need-returns
 returns c = look-first (c .before .before .args .set) _ _ (c .before .held-says .result) (c .before .held-says .ensures) (c .if1 .taken)
 
@@ -39,4 +36,4 @@ returns-3 c = look-0 (set (c .before .before)) _ _ (held (c .before .before)) (c
 
 pub look-says-spec : {M : Type 1} → statement M
 look-says-spec =
-    tie.close (tie.spec held-says-requires returns mul-if2 cast-if2 returns-2 returns-3)
+    tie.close (tie.spec (λ c κs. search needs) returns mul-if2 cast-if2 returns-2 returns-3)

@@ -9,12 +9,9 @@ returns : tie.Need-returns
 unfolding roomUnder
 returns c = rw (eq-eqb _ 0 (c .if1 .taken))
 
-least-requires : tie.Need-least-requires
-least-requires c κs = search needs
-
 returns-2 : tie.Need-returns-2
 unfolding roomUnder
 returns-2 c = rw (ne-eqb _ 0 (c .before .if1 .left)) (c .least .ensures)
 
 pub room-spec : {M : Type 1} → statement M
-room-spec = tie.close (tie.spec returns least-requires returns-2)
+room-spec = tie.close (tie.spec returns (λ c κs. search needs) returns-2)

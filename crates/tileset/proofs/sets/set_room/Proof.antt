@@ -7,15 +7,9 @@ use Rattle.tileset.specs.Sets.{roomUnder, setRoom}
 use Rattle.tileset.proofs.sets.set_room.Statement.{statement}
 use Rattle.tileset.proofs.sets.set_room.Tie as tie
 
-least-requires : tie.Need-least-requires
-least-requires c κs = search needs
-
-room-requires : tie.Need-room-requires
-room-requires c κs = search needs
-
 returns : tie.Need-returns
 unfolding setRoom roomUnder
 returns c = c .room .ensures ∙ ap (λ (most : ℕ). roomUnder (c .before .before .args .limit) most []) (c .before .least .ensures)
 
 pub set-room-spec : {M : Type 1} → statement M
-set-room-spec = tie.close (tie.spec least-requires room-requires returns)
+set-room-spec = tie.close (tie.spec (λ c κs. search needs) (λ c κs. search needs) returns)

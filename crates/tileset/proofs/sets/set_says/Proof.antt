@@ -18,24 +18,15 @@ returns : tie.Need-returns
 unfolding setSays
 returns c = rw (lt-ltb 15 _ (c .if1 .taken))
 
-has-depth-requires : tie.Need-has-depth-requires
-has-depth-requires c κs = search needs
-
 returns-2 : tie.Need-returns-2
 unfolding setSays
 returns-2 c = rw (le-ltb 15 _ (c .before .before .if1 .left), no (c .before .has-depth .ensures) (c .if2 .taken))
-
-is-width-requires : tie.Need-is-width-requires
-is-width-requires c κs = search needs
 
 returns-3 : tie.Need-returns-3
 unfolding setSays
 returns-3 c =
     let deep = c .before .before in
     rw (le-ltb 15 _ (deep .before .before .if1 .left), yes (deep .before .has-depth .ensures) (deep .if2 .left), no (c .before .is-width .ensures) (c .if3 .taken))
-
-is-height-requires : tie.Need-is-height-requires
-is-height-requires c κs = search needs
 
 returns-4 : tie.Need-returns-4
 unfolding setSays
@@ -66,10 +57,10 @@ set-says-spec =
     tie.close
     (tie.spec
     returns
-    has-depth-requires
+    (λ c κs. search needs)
     returns-2
-    is-width-requires
+    (λ c κs. search needs)
     returns-3
-    is-height-requires
+    (λ c κs. search needs)
     returns-4
     returns-5)

@@ -6,16 +6,10 @@ use Rattle.tileset.proofs.WritingLaws.{wide-cells, tall-cells, single-c
 use Rattle.tileset.proofs.writing.cell_count.Statement.{statement}
 use Rattle.tileset.proofs.writing.cell_count.Tie as tie
 
-padded-cells-requires : tie.Need-padded-cells-requires
-padded-cells-requires c κs = search needs
-
 returns : tie.Need-returns
 returns c =
     let a = c .before .before .args in
     (c .padded-cells .ensures .0 ∙ wide-cells (a .mode) _ (a .height) _ (c .before .if1 .taken), c .padded-cells .ensures .1)
-
-padded-cells-requires-2 : tie.Need-padded-cells-requires-2
-padded-cells-requires-2 c κs = search needs
 
 returns-2 : tie.Need-returns-2
 returns-2 c =
@@ -29,4 +23,4 @@ returns-3 c =
 
 pub cell-count-spec : {M : Type 1} → statement M
 cell-count-spec =
-    tie.close (tie.spec padded-cells-requires returns padded-cells-requires-2 returns-2 returns-3)
+    tie.close (tie.spec (λ c κs. search needs) returns (λ c κs. search needs) returns-2 returns-3)

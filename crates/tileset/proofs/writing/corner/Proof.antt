@@ -35,9 +35,6 @@ module _ (c : tie.After-row-cells) where
   tile-few : c .before .args .tile .0 * (z .width * z .height) ≤ 65535 * 4096
   tile-few = mul-le-mul (c .before .pre .few) (c .before .pre .small)
 
-row-cells-requires : tie.Need-row-cells-requires
-row-cells-requires c κs = search needs
-
 div-down : tie.Need-div-down
 div-down c = row-some _ _ _ (grid (c .before))
 
@@ -92,7 +89,7 @@ pub corner-spec : {M : Type 1} → statement M
 corner-spec =
     tie.close
     (tie.spec
-    row-cells-requires
+    (λ c κs. search needs)
     div-down
     rem-down
     mul-down

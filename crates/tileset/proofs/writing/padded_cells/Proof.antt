@@ -12,12 +12,6 @@ use Rattle.tileset.specs.Numbers.{Grid}
 grid : (c : tie.After-row-cells) → Grid (c .row-cells .result) (c .before .args .width / 8) (c .before .args .height / 8)
 grid c = grid-at (c .before .pre .0) (c .row-cells .ensures)
 
-row-cells-requires : tie.Need-row-cells-requires
-row-cells-requires c κs = search needs
-
-div-tiles : tie.Need-div-tiles
-div-tiles c = search needs
-
 sub-result : tie.Need-sub-result
 sub-result c = grid c .tiles
 
@@ -41,8 +35,8 @@ pub padded-cells-spec : {M : Type 1} → statement M
 padded-cells-spec =
     tie.close
     (tie.spec
-    row-cells-requires
-    div-tiles
+    (λ c κs. search needs)
+    (λ c. search needs)
     sub-result
     add-result
     div-result

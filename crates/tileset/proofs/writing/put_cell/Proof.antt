@@ -75,14 +75,8 @@ packing-of-requires c κs = held-set (c .before .before .args .set) _ (c .before
 tile-of-requires : tie.Need-tile-of-requires
 tile-of-requires c κs = grid-set (sound c) (s c .pre .cells)
 
-slice-aggregate-put-tile : tie.Need-slice-aggregate-put-tile
-slice-aggregate-put-tile c = search needs
-
 put-tile-requires : tie.Need-put-tile-requires
 put-tile-requires c κs = packs (c .before .before .before .before .before .before) _ refl
-
-same-length : tie.Need-same-length
-same-length c = search needs
 
 returns : tie.Need-returns
 returns c =
@@ -104,12 +98,6 @@ corner-requires c κs =
       is = c .before .before .before .tile-of .ensures;
     }
 
-cast-take-block : tie.Need-cast-take-block
-cast-take-block c = search needs
-
-slice-aggregate-take-block : tie.Need-slice-aggregate-take-block
-slice-aggregate-take-block c = search needs
-
 take-block-requires : tie.Need-take-block-requires
 take-block-requires c κs =
     let i = c .before .before .before in
@@ -119,16 +107,10 @@ take-block-requires c κs =
       long = refl;
     }
 
-slice-aggregate-put-tile-2 : tie.Need-slice-aggregate-put-tile-2
-slice-aggregate-put-tile-2 c = search needs
-
 put-tile-requires-2 : tie.Need-put-tile-requires-2
 put-tile-requires-2 c κs =
     let b = c .before .before .before in
     packs (p (e b)) _ (ap length (b .take-block .ensures) ∙ long b)
-
-same-length-2 : tie.Need-same-length-2
-same-length-2 c = search needs
 
 returns-2 : tie.Need-returns-2
 returns-2 c =
@@ -142,15 +124,15 @@ put-cell-spec =
     (tie.spec
     packing-of-requires
     tile-of-requires
-    slice-aggregate-put-tile
+    (λ c. search needs)
     put-tile-requires
-    same-length
+    (λ c. search needs)
     returns
     corner-requires
-    cast-take-block
-    slice-aggregate-take-block
+    (λ c. search needs)
+    (λ c. search needs)
     take-block-requires
-    slice-aggregate-put-tile-2
+    (λ c. search needs)
     put-tile-requires-2
-    same-length-2
+    (λ c. search needs)
     returns-2)

@@ -6,12 +6,12 @@ use native.Mathlib.Omega.{arith}
 use lib.ListN.{length}
 use denote.Ref.{now}
 use borrow.Author.Needs.{needs}
-use Rattle.words.proofs.Filling.{Filled, filled-none, filled-front}
+use Rattle.words.proofs.Filling.{Filled, filled-none, filled-front, filled-next}
 use Rattle.tileset.specs.Writing.{cellBytes, cellsOf}
 use Rattle.tileset.specs.declared.Set.{Set}
 use Rattle.tileset.proofs.Sizes.{IsSet, grid-set}
 use Rattle.tileset.proofs.Says.{held-set}
-use Rattle.tileset.proofs.WritingLaws.{held-few, cell-length, cells-space, item-space, front-more}
+use Rattle.tileset.proofs.WritingLaws.{held-few, cell-length, cells-space, item-space}
 use Rattle.tileset.proofs.writing.put_cells.Statement.{statement}
 use Rattle.tileset.proofs.writing.put_cells.Tie as tie
 
@@ -61,9 +61,6 @@ cast-size c = omega (arith, sound (c .before .before .before .before) .deep)
 loop-holds : tie.Need-loop-holds Inv-loop μ-loop
 loop-holds c = (refl, (c .before .cell-count .ensures .0, (search needs, filled-none _ _ _)))
 
-cast-put-cell : tie.Need-cast-put-cell Inv-loop μ-loop
-cast-put-cell c = search needs
-
 mul-put-cell : tie.Need-mul-put-cell Inv-loop μ-loop
 mul-put-cell c = omega (arith, here (c .before))
 
@@ -76,9 +73,6 @@ put-cell-requires c κs =
       space = omega (arith, here l, l .before .loop .inv .1 .1 .1 .long);
     }
 
-add-c : tie.Need-add-c Inv-loop μ-loop
-add-c c = search needs
-
 loop-less : tie.Need-loop-less Inv-loop μ-loop
 loop-less c = search needs
 
@@ -86,10 +80,7 @@ loop-again : tie.Need-loop-again Inv-loop μ-loop
 loop-again c =
     let l = c .before .before .before .before in
     let i = l .before .loop .inv in
-    (i .0, (i .1 .0, (search needs, front-more (z (s l) .depth * 8) (size-is (s l)) (i .1 .1 .1) (c .before .before .put-cell .ensures))))
-
-same-length : tie.Need-same-length Inv-loop μ-loop
-same-length c = search needs
+    (i .0, (i .1 .0, (search needs, filled-next (z (s l) .depth * 8) (size-is (s l)) (i .1 .1 .1) (c .before .before .put-cell .ensures))))
 
 returns : tie.Need-returns Inv-loop μ-loop
 returns c =
@@ -107,11 +98,11 @@ put-cells-spec =
     mul-size
     cast-size
     loop-holds
-    cast-put-cell
+    (λ c. search needs)
     mul-put-cell
     put-cell-requires
-    add-c
+    (λ c. search needs)
     loop-less
     loop-again
-    same-length
+    (λ c. search needs)
     returns)

@@ -7,7 +7,7 @@ use lib.Seq.{sets}
 use lib.ListN.{length}
 use denote.Ref.{now}
 use borrow.Author.Needs.{needs}
-use Rattle.words.proofs.Filling.{Filled, filled-none, filled-front}
+use Rattle.words.proofs.Filling.{Filled, filled-none, filled-front, filled-next}
 use Rattle.tile.specs.Inner.{byteCount}
 use Rattle.tile.proofs.Native.{Native, fitting}
 use Rattle.tileset.specs.Sets.{area}
@@ -15,7 +15,7 @@ use Rattle.tileset.specs.Writing.{spriteBytes}
 use Rattle.tileset.specs.declared.Set.{Set}
 use Rattle.tileset.proofs.Sizes.{IsSet}
 use Rattle.tileset.proofs.Says.{held-set}
-use Rattle.tileset.proofs.WritingLaws.{native-sprite, packs-at, packs-bytes, held-inside, sprite-length, sprites-space, item-space, front-more}
+use Rattle.tileset.proofs.WritingLaws.{native-sprite, packs-at, packs-bytes, held-inside, sprite-length, sprites-space, item-space}
 use Rattle.tileset.proofs.writing.put_sprites.Statement.{statement}
 use Rattle.tileset.proofs.writing.put_sprites.Tie as tie
 
@@ -88,9 +88,6 @@ byte-count-requires c κs = rw (c .before .packing-of .ensures) (fitting (sprite
 loop-holds : tie.Need-loop-holds Inv-loop μ-loop
 loop-holds c = (search needs, filled-none _ _ _)
 
-cast-k : tie.Need-cast-k Inv-loop μ-loop
-cast-k c = search needs
-
 mul-put-tile : tie.Need-mul-put-tile Inv-loop μ-loop
 mul-put-tile c = omega (arith, from c)
 
@@ -103,9 +100,6 @@ put-tile-requires c κs =
     packs-at (b t .before .before .packing-of .ensures) (sprite (s (b t))) _ _ _ _ (from t)
     (omega (arith, here t, bytes-at t, t .before .before .loop .inv .1 .long))
 
-add-i : tie.Need-add-i Inv-loop μ-loop
-add-i c = search needs
-
 loop-less : tie.Need-loop-less Inv-loop μ-loop
 loop-less c = search needs
 
@@ -116,14 +110,11 @@ loop-again c =
     let s0 = s (b t) in
     let bytes = packs-bytes (b t .before .before .packing-of .ensures) (sprite s0) (store s0) (lp .i * area (z s0)) in (
       search needs,
-      front-more (size s0) (size-is s0) (lp .inv .1)
+      filled-next (size s0) (size-is s0) (lp .inv .1)
           (c .before .before .put-tile .ensures
           ∙ ap (λ (l : List ℕ). sets (lp .out) (lp .i * b t .byte-count .result) l) bytes
           ∙ ap (λ (k : ℕ). sets (lp .out) k (spriteBytes (z s0) (store s0) (lp .i))) (bytes-at t)),
     )
-
-same-length : tie.Need-same-length Inv-loop μ-loop
-same-length c = search needs
 
 returns : tie.Need-returns Inv-loop μ-loop
 returns c =
@@ -141,12 +132,12 @@ put-sprites-spec =
     cast-n
     byte-count-requires
     loop-holds
-    cast-k
+    (λ c. search needs)
     mul-put-tile
     mul-put-tile-2
     put-tile-requires
-    add-i
+    (λ c. search needs)
     loop-less
     loop-again
-    same-length
+    (λ c. search needs)
     returns)

@@ -6,8 +6,8 @@ use native.Mathlib.Omega.{arith}
 use lib.ListN.{getD, length}
 use denote.Ref.{now}
 use borrow.Author.Needs.{needs}
-use Rattle.words.proofs.Filling.{Filled, filled-none, filled-whole}
-use Rattle.tileset.proofs.WritingLaws.{block-at, front-one}
+use Rattle.words.proofs.Filling.{Filled, filled-none, filled-whole, filled-next-one}
+use Rattle.tileset.proofs.WritingLaws.{block-at}
 use Rattle.tileset.proofs.writing.take_block.Statement.{statement}
 use Rattle.tileset.proofs.writing.take_block.Tie as tie
 
@@ -40,14 +40,11 @@ shared-slice-read-out c = near (c .before)
 slice-write-out : tie.Need-slice-write-out Inv-loop μ-loop
 slice-write-out c = omega (arith, c .before .before .loop .inv .1 .long, c .before .before .before .pre .long, c .before .loop-test .taken)
 
-add-i : tie.Need-add-i Inv-loop μ-loop
-add-i c = search needs
-
 loop-less : tie.Need-loop-less Inv-loop μ-loop
 loop-less c = search needs
 
 loop-again : tie.Need-loop-again Inv-loop μ-loop
-loop-again c = (search needs, front-one (c .before .before .loop .inv .1))
+loop-again c = (search needs, filled-next-one (c .before .before .loop .inv .1))
 
 same-length : tie.Need-same-length Inv-loop μ-loop
 same-length c = c .before .loop .inv .1 .long
@@ -67,7 +64,7 @@ take-block-spec =
     add-out-2
     shared-slice-read-out
     slice-write-out
-    add-i
+    (λ c. search needs)
     loop-less
     loop-again
     same-length

@@ -35,12 +35,6 @@ module _ (c : tie.Else1) where
   writes : Writes z store out
   writes = record { held = held; space = write-space z store _ accepted }
 
-write-says-requires : tie.Need-write-says-requires
-write-says-requires c κs = search needs
-
-refused-requires : tie.Need-refused-requires
-refused-requires c κs = search needs
-
 returns : tie.Need-returns
 returns c = refuse (c .before .before .write-says .result) (c .before .before .write-says .ensures) (c .before .if1 .taken) (c .refused .ensures) refl
 
@@ -49,9 +43,6 @@ write-size-requires c κs = (held-says-set (z c) _ (held c), held-few (z c) _ (h
 
 put-sprites-requires : tie.Need-put-sprites-requires
 put-sprites-requires c κs = (writes (c .before .before .before .before .before), c .before .if2 .taken)
-
-same-length : tie.Need-same-length
-same-length c = search needs
 
 returns-2 : tie.Need-returns-2
 returns-2 c =
@@ -64,9 +55,6 @@ returns-2 c =
 
 put-cells-requires : tie.Need-put-cells-requires
 put-cells-requires c κs = (writes (c .before .before .before .before .before), c .before .if2 .left)
-
-same-length-2 : tie.Need-same-length-2
-same-length-2 c = search needs
 
 returns-3 : tie.Need-returns-3
 returns-3 c =
@@ -81,13 +69,13 @@ pub write-spec : {M : Type 1} → statement M
 write-spec =
     tie.close
     (tie.spec
-    write-says-requires
-    refused-requires
+    (λ c κs. search needs)
+    (λ c κs. search needs)
     returns
     write-size-requires
     put-sprites-requires
-    same-length
+    (λ c. search needs)
     returns-2
     put-cells-requires
-    same-length-2
+    (λ c. search needs)
     returns-3)

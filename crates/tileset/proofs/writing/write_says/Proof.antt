@@ -37,9 +37,6 @@ module _ (c : tie.Else1) where
   pixels-few : z .stored * area z ≤ 65535 * 4096
   pixels-few = mul-le-mul (held-few z _ held) (sound .small)
 
-held-says-requires : tie.Need-held-says-requires
-held-says-requires c κs = search needs
-
 returns : tie.Need-returns
 returns c =
     let a = c .before .before .before .args in
@@ -90,7 +87,7 @@ pub write-says-spec : {M : Type 1} → statement M
 write-says-spec =
     tie.close
     (tie.spec
-    held-says-requires
+    (λ c κs. search needs)
     returns
     mul-count
     mul-count-2

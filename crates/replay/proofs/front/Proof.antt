@@ -1,0 +1,13 @@
+-- A front is no longer than the whole.
+-- Assumes nothing.
+use native.Mathlib.Omega.{arith}
+use lib.ListN.{length-take}
+use borrow.Author.Needs.{needs}
+use Rattle.replay.proofs.front.Statement.{statement}
+use Rattle.replay.proofs.front.Tie as tie
+
+slice-aggregate-result : tie.Need-slice-aggregate-result
+slice-aggregate-result c = simp length-take (omega arith)
+
+pub front-spec : {M : Type 1} → statement M
+front-spec = tie.close (tie.spec (λ c. search needs) slice-aggregate-result (λ c. search needs))
