@@ -409,14 +409,12 @@ fn put_picture(
     }
 }
 
-// Converts a picture. Its tiles are gathered first, so that a refusal leaves every lent byte as it was: 264 KiB of stack, and 32 for their index.
-pub fn convert(settings: Settings, pixels: &[u8], tiles: &mut [u8], map: &mut [u8]) -> Picture
+// The picture of settings that are not refused. Its tiles are gathered first, so that want of room leaves every lent byte as it was: 264 KiB of
+// stack, and 32 for their index.
+fn convert_asked(settings: Settings, pixels: &[u8], tiles: &mut [u8], map: &mut [u8]) -> Picture
+    requires { ⌜ askedSays settings (length (now pixels)) (length (now map)) ≡ 0 ⌝ }
     ensures { λ r. ⌜ Converts (convertSays settings (now (pixels .entry)) (length (now (tiles .entry))) (length (now (map .entry)))) settings (now (pixels .entry)) (now (tiles .entry)) (now (map .entry)) r (now (tiles .exit)) (now (map .exit)) ⌝ }
 {
-    let number = asked_says(settings, pixels.len(), map.len());
-    if number != 0 {
-        return no_picture(number);
-    }
     let mut store = [0u8; 262144];
     let mut keys = [0u32; 4096];
     let mut heads = [0u16; 4096];
@@ -440,6 +438,21 @@ pub fn convert(settings: Settings, pixels: &[u8], tiles: &mut [u8], map: &mut [u
         return no_picture(refusal::ROOM);
     };
     put_picture(settings, &store, &codes, count, tiles, map)
+}
+
+// Converts a picture. What is refused by its settings and lengths takes none of a conversion's stack: the two calls keep the compiler from making
+// one function of this and what it calls.
+pub fn convert(settings: Settings, pixels: &[u8], tiles: &mut [u8], map: &mut [u8]) -> Picture
+    ensures { λ r. ⌜ Converts (convertSays settings (now (pixels .entry)) (length (now (tiles .entry))) (length (now (map .entry)))) settings (now (pixels .entry)) (now (tiles .entry)) (now (map .entry)) r (now (tiles .exit)) (now (map .exit)) ⌝ }
+{
+    let number = asked_says(settings, pixels.len(), map.len());
+    if number != 0 {
+        return no_picture(number);
+    }
+    if settings.flip {
+        return convert_asked(settings, pixels, tiles, map);
+    }
+    convert_asked(settings, pixels, tiles, map)
 }
 
 // Whether one of so many entries names a tile that is not among so many.

@@ -4,6 +4,8 @@
 use mathlib.Core.Path.{sym, _∙_}
 use denote.Ref.{now}
 use Rattle.words.proofs.Results.{OneResult, OneContent, one-answer, one-content}
+use Rattle.rumchivoat.proofs.rumchivoat_interface.Reads as interface
+use Rattle.rumchivoat.proofs.rumchivoat_interface.Kinds as interface-kinds
 use Rattle.rumchivoat.proofs.rumchivoat_pack_tile.Reads as pack-tile
 use Rattle.rumchivoat.proofs.rumchivoat_pack_tile.Kinds as pack-tile-kinds
 use Rattle.rumchivoat.proofs.rumchivoat_unpack_tile.Reads as unpack-tile
@@ -46,6 +48,9 @@ use Rattle.rumchivoat.proofs.rumchivoat_redraw.Reads as redraw
 use Rattle.rumchivoat.proofs.rumchivoat_redraw.Kinds as redraw-kinds
 use Rattle.rumchivoat.proofs.rumchivoat_run.Reads as run
 use Rattle.rumchivoat.proofs.rumchivoat_run.Kinds as run-kinds
+
+pub interface-result : OneResult 0 interface-kinds.ps interface-kinds.r interface.Post
+interface-result κs a x y s t p q = p ∙ sym q
 
 pub pack-tile-result : OneResult 2 pack-tile-kinds.ps pack-tile-kinds.r pack-tile.Post
 pack-tile-result κs a x y s t p q = one-answer p q

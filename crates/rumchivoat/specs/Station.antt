@@ -1,4 +1,4 @@
--- The station's plain numbers, as the values that the definitions speak of.
+-- The number of the interface, and the station's plain numbers as the values that the definitions speak of.
 -- Assumes nothing.
 use Prim.Native.Nat.{ℕ}
 use mathlib.Core.Bool.{Bool, cond}
@@ -6,6 +6,10 @@ use Rattle.color.specs.declared.Rounding.{Rounding}
 use Rattle.color.specs.declared.Rounding.the-variants.{Truncate, Nearest}
 use Rattle.mapentry.specs.declared.Mapentry.{Mapentry}
 use Rattle.picture.specs.declared.Settings.{Settings}
+
+-- The number of the interface: one more with each landing that adds or changes a call.
+abbrev pub interface : ℕ
+interface = 1
 
 abbrev pub roundingOf : Bool → Rounding
 roundingOf nearest = cond nearest Nearest Truncate

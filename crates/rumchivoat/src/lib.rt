@@ -28,7 +28,15 @@ ghost use Rattle.tileset.specs.Numbers.{nativeSays, firstCell, logicalSays, til
 ghost use Rattle.picture.specs.Converting.{convertSays, Converts};
 ghost use Rattle.picture.specs.Redrawing.{redrawSays, drawn};
 ghost use Rattle.sheet.specs.Program.{numberOf, textOf, Ran};
-ghost use Rattle.rumchivoat.specs.Station.{roundingOf, entryFrom, settingsFrom};
+ghost use Rattle.rumchivoat.specs.Station.{interface, roundingOf, entryFrom, settingsFrom};
+
+// The number of this interface, for a host to compare with the one that it was written for.
+#[no_mangle]
+pub extern "C" fn rumchivoat_interface() -> u32
+    ensures { λ r. ⌜ r ≡ interface ⌝ }
+{
+    1
+}
 
 #[no_mangle]
 pub extern "C" fn rumchivoat_pack_tile(

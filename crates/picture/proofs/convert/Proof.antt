@@ -1,92 +1,21 @@
--- The checks, the tiles gathered, and both buffers written.
-use mathlib.Core.Path.{_≡_, refl, sym, _∙_}
-use Prim.Native.Nat.{ℕ, _≤_}
-use native.Mathlib.Omega.{arith}
-use lib.ListN.{length, length-replicate}
-use denote.Ref.{now}
-use Rattle.picture.specs.Inner.{askedSays, IsPicture}
-use Rattle.picture.proofs.Cells.{some-8}
-use Rattle.picture.proofs.Checks.{IsSize, few-tiles, asked-sized, asked-picture, asked-map, room-named, room-most, room-bytes, convert-asked, convert-12, convert-0}
-use Rattle.picture.proofs.Converted.{stored-need}
-use Rattle.picture.proofs.Storing.{empty-index}
-use Rattle.picture.proofs.Promised.{no-room, counted, stored-count, puts-picture, put-done, refused-picture}
+-- The checks, and what is converted where they passed.
+use mathlib.Core.Path.{refl}
+use Rattle.picture.proofs.Checks.{convert-asked}
+use Rattle.picture.proofs.Promised.{refused-picture}
 use borrow.Author.Needs.{needs}
 use Rattle.picture.proofs.convert.Statement.{statement}
 use Rattle.picture.proofs.convert.Tie as tie
-
--- the checks passed
-module _ (c : tie.Else1) where
-  abbrev start : tie.Start
-  start = c .before .before .before .before .before
-
-  none : let a = start .args in askedSays (a .settings) (length (now (a .pixels))) (length (now (a .map))) ≡ 0
-  none = sym (c .before .asked-says .ensures) ∙ c .if1 .left
-
-  sized : let z = start .args .settings in IsSize (z .mode) (z .depth) (z .columns) (z .rows)
-  sized = asked-sized _ _ _ none
-
-  picture : IsPicture (start .args .settings) (length (now (start .args .pixels)))
-  picture = asked-picture _ _ _ none
-
--- the room is known
-module _ (c : tie.After-picture-room) where
-  abbrev begun : tie.Start
-  begun = start (c .before)
-
-  most : c .picture-room .result ≤ 4096
-  most = omega (arith, c .picture-room .ensures, room-most (begun .args .settings) (length (now (begun .args .tiles))) (sized (c .before) .mode))
 
 returns : tie.Need-returns
 returns c =
     let a = c .before .before .asked-says in
     refused-picture (a .result) (convert-asked _ _ _ _ (a .result) (a .ensures) (c .before .if1 .taken)) (c .before .if1 .taken) (c .no-picture .ensures) refl refl
 
-picture-room-requires : tie.Need-picture-room-requires
-picture-room-requires c κs = (sized c .mode, sized c .shallow, sized c .deep)
-
-mul-end : tie.Need-mul-end
-mul-end c = omega (arith, few-tiles (sized (c .before .before)))
-
-cast-end : tie.Need-cast-end
-cast-end c = omega (arith, few-tiles (sized (c .before .before)))
-
-gather-requires : tie.Need-gather-requires
-gather-requires c κs =
-    record {
-      picture = picture (c .before .before .before .before .before .before .before);
-      from = omega arith;
-      upTo = omega arith;
-      within = omega arith;
-      most = most (c .before .before .before .before .before .before);
-      index = empty-index _ _ _ _;
-      long = length-replicate {A = ℕ} 4096 0;
-    }
-
 returns-2 : tie.Need-returns-2
-returns-2 c =
-    let r = c .before .before .before .before .before .before .before .before .before .before in
-    let a = begun r .args in
-    let full = no-room _ (c .before .before .before .gather .ensures) (c .before .enum-told .given .1) in
-    refused-picture 12 (convert-12 (a .settings) (now (a .pixels)) (length (now (a .tiles))) (length (now (a .map))) (none (r .before)) (omega (arith, full, r .picture-room .ensures)))
-    (λ e. omega arith) (c .no-picture2 .ensures) refl refl
-
-put-picture-requires : tie.Need-put-picture-requires
-put-picture-requires c κs =
-    let r = c .before .before .before .before .before .before .before .before .before .before .before .before .before .before in
-    let a = begun r .args in
-    let g = counted _ (c .before .before .before .before .before .before .before .gather .ensures) (c .before .before .before .before .before .count .given .1) in
-    puts-picture g (picture (r .before)) (few-tiles (sized (r .before))) (omega (arith, r .picture-room .ensures, room-named (a .settings) (length (now (a .tiles)))))
-    (room-bytes (a .settings) (length (now (a .tiles))) (sized (r .before) .shallow) (omega (arith, g .within, r .picture-room .ensures))) (asked-map _ _ _ (none (r .before)))
+returns-2 c = search needs
 
 returns-3 : tie.Need-returns-3
-returns-3 c =
-    let p = c .before .before .before .before .before in
-    let r = p .before .before .before .before .before .before .before .before .before .before .before .before .before .before in
-    let a = begun r .args in
-    let g = counted _ (p .before .before .before .before .before .before .before .gather .ensures) (p .before .before .before .before .before .count .given .1) in
-    put-done g (picture (r .before)) (few-tiles (sized (r .before))) (c .before .before .before .before .put-picture .ensures)
-    (convert-0 (a .settings) (now (a .pixels)) (length (now (a .tiles))) (length (now (a .map))) (none (r .before))
-    (omega (arith, stored-need 8 8 some-8 (a .settings) (now (a .pixels)), stored-count g, g .within, r .picture-room .ensures)))
+returns-3 c = search needs
 
 pub convert-spec : {M : Type 1} → statement M
 convert-spec =
@@ -95,15 +24,11 @@ convert-spec =
     (λ c κs. search needs)
     (λ c κs. search needs)
     returns
-    picture-room-requires
-    mul-end
-    cast-end
-    gather-requires
-    (λ c. search needs)
-    (λ c. search needs)
     (λ c κs. search needs)
+    (λ c. search needs)
+    (λ c. search needs)
     returns-2
-    put-picture-requires
+    (λ c κs. search needs)
     (λ c. search needs)
     (λ c. search needs)
     returns-3)
