@@ -1,10 +1,14 @@
 #!/bin/sh
-# Builds the archive from the proved crates and runs host/examples/station.rs over it.
+# sh run.sh
+#
+# Proves and writes the archive, where it does not stand yet, and runs host/examples/station.rs over it: a station in
+# small. Status 3, and one line, where a tool is missing.
 set -eu
 cd "$(dirname "$0")"
-rt check rumchivoat
-rt staticlib rumchivoat
-# rt writes for x86-64 alone
-[ "$(uname -m)" = x86_64 ] || sh host/native.sh
+. host/sh/common.sh
+help_if_asked "$@"
+# cc is what Rust links with
+need rt cargo cc awk sha256sum
+sh host/sh/archive.sh
 cd host
 cargo run --release --offline --quiet --example station

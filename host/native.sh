@@ -1,26 +1,42 @@
 #!/bin/sh
-# Writes target/native/librumchivoat.a: the archive for a processor that `rt staticlib` does not write for.
+# sh host/native.sh
+#
+# Writes target/native/librumchivoat.a: the archive for a processor that `rt staticlib` does not write for. Where it
+# stands and was made from the crates as they are, nothing is done; on x86-64 nothing is to be done.
 #
 # `rt staticlib` proves the crate and has the kit's compiler make x86-64 code of the module. Here the same command of
 # the kit proves the same crate again, over a toolchain folder whose compiler is the kit's own, told this machine's
 # processor: the same module, the same optimisations, another instruction set, and structs of more than 16 bytes passed
 # by that processor's rules. Run `rt staticlib rumchivoat` first: it leaves the proved libraries in target/rlib.
+# Status 3 where a tool is missing, 1 where something is not proved.
 set -eu
 cd "$(dirname "$0")/.."
+. host/sh/common.sh
+help_if_asked "$@"
 
 crate=rumchivoat
 machine=$(uname -m)
 case $machine in
-x86_64) echo "native.sh: on x86-64 the archive is rt's own, target/staticlib/lib$crate.a"; exit 0 ;;
+x86_64)
+    echo "native.sh: nothing to do: on x86-64 the archive is rt's own, target/staticlib/lib$crate.a"
+    exit 0
+    ;;
 aarch64) triple=aarch64-unknown-linux-gnu ;;
-*) echo "native.sh: no compiler target is known here for $machine" >&2; exit 1 ;;
+*) fail 1 "no compiler target is known here for $machine" ;;
 esac
-
-rt=$(readlink -f "$(command -v rt)") || { echo "native.sh: rt is not on the path" >&2; exit 1; }
-kit=${RATTLE_HOME:-$(dirname "$(dirname "$rt")")}
+need rt awk sha256sum
+find_kit
 own=$kit/on/$machine
 root=$(pwd -P)
 native=$root/target/native
+archive=target/native/lib$crate.a
+
+# what this script does to the module is a part of what the archive comes from
+sources=$(sources host/native.sh)
+if is_made "$archive" "$sources"; then
+    echo "native.sh: $archive stands, proved from these crates"
+    exit 0
+fi
 
 # The module's exports pass structs of more than 16 bytes by the C rules of x86-64: a result at the place that the first
 # argument names, which is answered as well; an argument copied onto the stack (byval). By those of aarch64 a result's
@@ -76,7 +92,7 @@ dependencies() {
 set -- --extern "std=$own/rlib/std.rlib"
 for d in $(dependencies); do
     if [ -d "crates/$d/src" ]; then library=$root/target/rlib/$d.rlib; else library=$own/rlib/$d.rlib; fi
-    [ -e "$library" ] || { echo "native.sh: $d is not proved yet: run \`rt staticlib $crate\` first" >&2; exit 1; }
+    [ -e "$library" ] || fail 1 "$d is not proved yet: run \`rt staticlib $crate\` first"
     set -- "$@" --extern "$d=$library"
 done
 set -- "$@" -L "dependency=$root/target/rlib" -L "dependency=$own/rlib"
@@ -86,12 +102,13 @@ make_toolchain
 said=$native/said
 status=0
 "$own/bin/rattle" build --crate-name "$crate" "$root/crates/$crate/src/lib.rt" "$@" \
-    --toolchain "$native/toolchain" --crate-type staticlib -o "$native/lib$crate.a" >"$said" 2>&1 || status=$?
+    --toolchain "$native/toolchain" --crate-type staticlib -o "$root/$archive" >"$said" 2>&1 || status=$?
 cat "$said"
 # As rt has it: proved, and with no C function of its own whose contract nothing proves.
 if [ "$status" -ne 0 ] || ! grep -q '^logic=proved' "$said" || grep -q '^logic=proved .*foreign=' "$said"; then
-    rm -f "$native/lib$crate.a"
-    echo "native.sh: $crate is NOT PROVED: no archive" >&2
-    exit 1
+    rm -f "$archive"
+    fail 1 "$crate is NOT PROVED: no archive"
 fi
-echo "native.sh: target/native/lib$crate.a is for $machine"
+[ "$(sources host/native.sh)" = "$sources" ] || fail 1 "a file under crates changed meanwhile: run it again"
+mark_made "$archive" "$sources"
+echo "native.sh: $archive is for $machine"

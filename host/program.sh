@@ -1,24 +1,19 @@
 #!/bin/sh
+# sh host/program.sh <SHEET
+#
 # Runs target/bin/convert, the program that `rt check convert` proves and builds, on standard input, as rt itself runs
-# it: under the kit's loader and C library, and on a processor other than x86-64 under the kit's emulator.
+# it: under the kit's loader and C library, and on a processor other than x86-64 under the kit's emulator. It writes the
+# program's text and ends with the program's status, which is 0 also where a sheet is refused.
 # Status 3 where there is no program, or no kit to run it with.
 set -eu
 cd "$(dirname "$0")/.."
-
-absent() {
-    echo "program.sh: $1" >&2
-    exit 3
-}
+. host/sh/common.sh
+help_if_asked "$@"
+need rt
+find_kit
 
 program=target/bin/convert
-[ -e "$program" ] || absent "$program is not there: run \`rt check convert\`"
-rt=$(command -v rt) || absent "rt is not on the path"
-rt=$(readlink -f "$rt")
-kit=${RATTLE_HOME:-$(dirname "$(dirname "$rt")")}
-tools=$kit/on/$(uname -m)/toolchain
+[ -e "$program" ] || fail 3 "missing: $program: run \`rt check convert\`"
 loader=$tools/lib/ld-linux-x86-64.so.2
-emulator=$tools/bin/qemu-x86_64
-[ -e "$loader" ] || absent "the kit at $kit has no loader for $(uname -m)"
-# the kit has an emulator where the processor needs one
-[ -x "$emulator" ] || emulator=
+[ -e "$loader" ] || fail 3 "missing: a loader for $(uname -m) in the kit at $kit"
 exec ${emulator:+"$emulator"} "$loader" --library-path "$tools/lib" "$program"

@@ -1,27 +1,52 @@
-/* Calls every function of the x86-64 archive by the C rules, with document 01's examples and a refusal each: that
- * arguments and answers cross the boundary as the header has them. It stands alone, without a C library. */
+/* Calls every function of the x86-64 archive by the C rules: each with a call that is done, its answer and every lent
+ * byte held to what they should be, and with a refused call for each number that it gives, all lent bytes as they were.
+ * It prints a line for each, `CALL NUMBER`, 0 for one that is done, and ends with status 1 where anything differs.
+ *
+ * It is C99 and C++17 at once, so that both kinds of host are tried, and stands alone, without a C library. calls.sh
+ * builds it both ways and holds its lines to the exports and to the table in docs/REFUSALS.md. */
 #include "rumchivoat.h"
-
-enum { SNES = 0, GB = 2, MD = 6, PCE = 9 };
 
 /* ---- what a C library would give */
 
-static long call(long number, long a, long b, long c) {
+#ifdef __cplusplus
+extern "C" {
+#endif
+void *memset(void *to, int byte, size_t n);
+void *memcpy(void *to, const void *from, size_t n);
+int memcmp(const void *a, const void *b, size_t n);
+void _start(void);
+#ifdef __cplusplus
+}
+#endif
+
+static long system_call(long number, long a, long b, long c) {
     long result;
     __asm__ volatile("syscall" : "=a"(result) : "a"(number), "D"(a), "S"(b), "d"(c) : "rcx", "r11", "memory");
     return result;
 }
 
-static void say(const char *text) {
+static size_t length_of(const char *text) {
     size_t length = 0;
     while (text[length]) length++;
-    call(1, 1, (long)text, (long)length);
+    return length;
 }
 
-static _Noreturn void quit(int status) {
-    for (;;) call(60, status, 0, 0);
+static void say(const char *text) {
+    system_call(1, 1, (long)text, (long)length_of(text));
 }
 
+static void say_number(size_t n) {
+    char digits[21];
+    size_t at = sizeof digits - 1;
+    digits[at] = 0;
+    do {
+        digits[--at] = (char)('0' + n % 10);
+        n /= 10;
+    } while (n);
+    say(digits + at);
+}
+
+/* volatile, so that the compiler does not make calls of these functions out of their own loops */
 void *memset(void *to, int byte, size_t n) {
     for (size_t i = 0; i < n; i++) ((volatile uint8_t *)to)[i] = (uint8_t)byte;
     return to;
@@ -40,121 +65,655 @@ int memcmp(const void *a, const void *b, size_t n) {
     return 0;
 }
 
-#define CHECK(test) do { if (!(test)) { say("FAILED: " #test "\n"); quit(1); } } while (0)
-#define HOLDS(buffer, ...) \
-    (memcmp(buffer, (const uint8_t[]){__VA_ARGS__}, sizeof((const uint8_t[]){__VA_ARGS__})) == 0)
+/* ---- what is lent, and what it should hold */
 
-static uint8_t out[4096], back[4096], pixels[4096], store[4096];
+struct buffers {
+    uint8_t pixels[512];
+    uint8_t bytes[1024];
+    uint8_t input[512];
+    uint8_t out[2048];
+    uint8_t store[4096];
+    uint8_t map[16];
+};
 
-static void clear(void) {
-    memset(out, 0xa5, sizeof out);
-    memset(pixels, 0, sizeof pixels);
+static struct buffers lent, due;
+
+static bool all_right = true;
+
+static bool as_due(void) {
+    return memcmp(&lent, &due, sizeof lent) == 0;
 }
 
-/* ---- the calls */
-
-static void tiles(void) {
-    clear();
-    for (int x = 0; x < 8; x++) pixels[x] = (uint8_t)(x % 4);
-    Written w = rumchivoat_pack_tile(SNES, 2, 8, 8, pixels, 64, out, 17);
-    CHECK(w.refusal == 0 && w.written == 16 && HOLDS(out, 0x55, 0x33, 0) && out[16] == 0xa5);
-    w = rumchivoat_unpack_tile(SNES, 2, 8, 8, out, 16, back, sizeof back);
-    CHECK(w.refusal == 0 && w.written == 64 && memcmp(back, pixels, 64) == 0);
-    w = rumchivoat_pack_tile(SNES, 2, 8, 8, pixels, 64, out, 15);
-    CHECK(w.refusal == 11 && w.written == 0);
+/* What stands in the buffers is what they should hold: before a call that changes nothing. */
+static void keep(void) {
+    memcpy(&due, &lent, sizeof due);
 }
 
-static void colors(void) {
-    clear();
-    Written w = rumchivoat_pack_colors(MD, (const uint8_t[]){7, 1, 4, 255}, 4, out, sizeof out);
-    CHECK(w.refusal == 0 && w.written == 2 && HOLDS(out, 0x08, 0x2e, 0xa5));
-    w = rumchivoat_unpack_colors(MD, out, 2, back, sizeof back);
-    CHECK(w.refusal == 0 && w.written == 4 && HOLDS(back, 7, 1, 4, 255));
-    Number n = rumchivoat_reduce_channel(SNES, 255, true);
-    CHECK(n.refusal == 0 && n.value == 31);
-    n = rumchivoat_scale_up(GB, 4);
-    CHECK(n.refusal == 9 && n.value == 0);
+/* Noise everywhere but for the pixels, which are 0. */
+static void begin(void) {
+    memset(&lent, 0xa5, sizeof lent);
+    memset(lent.pixels, 0, sizeof lent.pixels);
+    keep();
 }
 
-static void entries(void) {
-    clear();
-    Written w = rumchivoat_pack_entry(SNES, 513, 5, true, false, true, out, sizeof out);
-    CHECK(w.refusal == 0 && w.written == 2 && HOLDS(out, 0x01, 0x76, 0xa5));
-    Entry e = rumchivoat_unpack_entry(SNES, out, 2);
-    CHECK(e.refusal == 0 && e.tile == 513 && e.palette == 5 && e.flip_h && !e.flip_v && e.priority);
-    w = rumchivoat_pack_entry(PCE, 4096, 15, false, false, false, out, sizeof out);
-    CHECK(w.refusal == 10 && w.written == 0);
-    w = rumchivoat_tile_index(SNES, 513, 5, true, false, true, out, sizeof out);
-    CHECK(w.refusal == 0 && w.written == 2 && HOLDS(out, 0x01, 0x02, 0xa5));
-    Number n = rumchivoat_attribute(SNES, 513, 5, true, false, true);
-    CHECK(n.refusal == 0 && n.value == 0x74);
+/* A call's line; `right` is whether its answer is the one that is due. */
+static void tell(const char *call, uint32_t number, bool right) {
+    say(call);
+    say(" ");
+    say_number(number);
+    if (!right || !as_due()) {
+        say(right ? " FAILED: a lent byte is not what it should be" : " FAILED: the answer is not what it should be");
+        all_right = false;
+    }
+    say("\n");
+    keep();
 }
 
-static bool is(Set a, Set b) {
+/* ---- answers */
+
+static bool is_written(rumchivoat_written w, uint32_t refusal, size_t written) {
+    return w.refusal == refusal && w.written == written;
+}
+
+static bool is_number(rumchivoat_number n, uint32_t refusal, uint32_t value) {
+    return n.refusal == refusal && n.value == value;
+}
+
+static bool is_set(rumchivoat_set a, rumchivoat_set b) {
     return a.mode == b.mode && a.depth == b.depth && a.width == b.width && a.height == b.height && a.flips == b.flips
         && a.discarding == b.discarding && a.limit == b.limit && a.stored == b.stored && a.discarded == b.discarded;
 }
 
-static void sets(void) {
-    clear();
-    Set new = {SNES, 2, 16, 16, true, true, 0, 0, 0};
-    SetAnswer a = rumchivoat_set_new(SNES, 2, 16, 16, true, true, 0);
-    CHECK(a.refusal == 0 && is(a.set, new));
-    Set set = a.set;
-    for (uint32_t i = 0; i < 9; i++) {
-        memset(pixels, 0, 256);
-        pixels[i] = 1;
-        pixels[16 * i] = 2;
-        a = rumchivoat_set_add(set, store, sizeof store, pixels, 256);
-        CHECK(a.refusal == 0 && a.set.stored == i + 1 && a.set.discarded == 0);
-        set = a.set;
-    }
+static bool is_picture(rumchivoat_picture p, uint32_t refusal, uint32_t tiles, uint32_t discarded, size_t tile_bytes,
+                       size_t map_bytes) {
+    return p.refusal == refusal && p.tiles == tiles && p.discarded == discarded && p.tile_bytes == tile_bytes
+        && p.map_bytes == map_bytes;
+}
+
+/* Refused calls, by the kind of their answer: the number, and all else 0 or false, or the set that came. */
+
+static void no_bytes(const char *call, uint32_t number, rumchivoat_written w) {
+    tell(call, number, is_written(w, number, 0));
+}
+
+static void no_number(const char *call, uint32_t number, rumchivoat_number n) {
+    tell(call, number, is_number(n, number, 0));
+}
+
+static void no_entry(const char *call, uint32_t number, rumchivoat_entry e) {
+    tell(call, number, e.refusal == number && !e.tile && !e.palette && !e.flip_h && !e.flip_v && !e.priority);
+}
+
+static void no_place(const char *call, uint32_t number, rumchivoat_place p) {
+    tell(call, number, p.refusal == number && !p.found && !p.place && !p.flip_h && !p.flip_v);
+}
+
+static void no_picture(const char *call, uint32_t number, rumchivoat_picture p) {
+    tell(call, number, is_picture(p, number, 0, 0, 0, 0));
+}
+
+static void same_set(const char *call, uint32_t number, rumchivoat_set_answer a, rumchivoat_set came) {
+    tell(call, number, a.refusal == number && is_set(a.set, came));
+}
+
+/* ---- the modes that the calls below use */
+
+enum {
+    SNES = RUMCHIVOAT_MODE_SNES,
+    GB = RUMCHIVOAT_MODE_GB,
+    MD = RUMCHIVOAT_MODE_MD,
+    PCE = RUMCHIVOAT_MODE_PCE,
+    SPRITE = RUMCHIVOAT_MODE_PCE_SPRITE,
+    WSC_PACKED = RUMCHIVOAT_MODE_WSC_PACKED,
+    NO_MODE = WSC_PACKED + 1
+};
+
+/* ---- the calls, as the header has them */
+
+static void interface(void) {
+    begin();
+    tell("rumchivoat_interface", 0, rumchivoat_interface() == RUMCHIVOAT_INTERFACE);
+}
+
+static void pack_tile(void) {
+    static const char call[] = "rumchivoat_pack_tile";
+    static const uint8_t packed[16] = {0x55, 0x33};
+    uint8_t *p = lent.pixels, *out = lent.out;
+    begin();
+    for (int x = 0; x < 8; x++) p[x] = (uint8_t)(x % 4);
+    keep();
+    rumchivoat_written w = rumchivoat_pack_tile(SNES, 2, 8, 8, p, 64, out, 17);
+    memcpy(due.out, packed, 16);
+    tell(call, 0, is_written(w, 0, RUMCHIVOAT_TILE_BYTES(2, 8, 8)));
+    no_bytes(call, RUMCHIVOAT_REFUSED_MODE, rumchivoat_pack_tile(NO_MODE, 2, 8, 8, p, 64, out, 16));
+    no_bytes(call, RUMCHIVOAT_REFUSED_DEPTH, rumchivoat_pack_tile(SNES, 3, 8, 8, p, 64, out, 16));
+    no_bytes(call, RUMCHIVOAT_REFUSED_SIZE, rumchivoat_pack_tile(SNES, 2, 16, 16, p, 256, out, 64));
+    no_bytes(call, RUMCHIVOAT_REFUSED_LENGTH, rumchivoat_pack_tile(SNES, 2, 8, 8, p, 63, out, 16));
+    no_bytes(call, RUMCHIVOAT_REFUSED_OUTPUT, rumchivoat_pack_tile(SNES, 2, 8, 8, p, 64, out, 15));
+    p[63] = 4;
+    keep();
+    no_bytes(call, RUMCHIVOAT_REFUSED_PIXEL, rumchivoat_pack_tile(SNES, 2, 8, 8, p, 64, out, 16));
+}
+
+static void unpack_tile(void) {
+    static const char call[] = "rumchivoat_unpack_tile";
+    uint8_t *b = lent.bytes, *out = lent.out;
+    begin();
+    memset(b, 0, 16);
+    b[0] = 0x55;
+    b[1] = 0x33;
+    keep();
+    rumchivoat_written w = rumchivoat_unpack_tile(SNES, 2, 8, 8, b, 16, out, 65);
+    memset(due.out, 0, 64);
+    for (int x = 0; x < 8; x++) due.out[x] = (uint8_t)(x % 4);
+    tell(call, 0, is_written(w, 0, RUMCHIVOAT_TILE_PIXELS(8, 8)));
+    no_bytes(call, RUMCHIVOAT_REFUSED_MODE, rumchivoat_unpack_tile(NO_MODE, 2, 8, 8, b, 16, out, 64));
+    no_bytes(call, RUMCHIVOAT_REFUSED_DEPTH, rumchivoat_unpack_tile(MD, 2, 8, 8, b, 16, out, 64));
+    no_bytes(call, RUMCHIVOAT_REFUSED_SIZE, rumchivoat_unpack_tile(SPRITE, 4, 8, 8, b, 32, out, 64));
+    no_bytes(call, RUMCHIVOAT_REFUSED_LENGTH, rumchivoat_unpack_tile(SNES, 2, 8, 8, b, 17, out, 64));
+    no_bytes(call, RUMCHIVOAT_REFUSED_OUTPUT, rumchivoat_unpack_tile(SNES, 2, 8, 8, b, 16, out, 63));
+}
+
+static void pack_colors(void) {
+    static const char call[] = "rumchivoat_pack_colors";
+    static const uint8_t color[4] = {7, 1, 4, 255}, bright[4] = {8, 1, 4, 255};
+    uint8_t *out = lent.out;
+    begin();
+    rumchivoat_written w = rumchivoat_pack_colors(MD, color, 4, out, 3);
+    due.out[0] = 0x08;
+    due.out[1] = 0x2e;
+    tell(call, 0, is_written(w, 0, 2));
+    no_bytes(call, RUMCHIVOAT_REFUSED_MODE, rumchivoat_pack_colors(NO_MODE, color, 4, out, 2));
+    no_bytes(call, RUMCHIVOAT_REFUSED_LENGTH, rumchivoat_pack_colors(GB, color, 4, out, 2));
+    no_bytes(call, RUMCHIVOAT_REFUSED_COMPONENT, rumchivoat_pack_colors(MD, bright, 4, out, 2));
+    no_bytes(call, RUMCHIVOAT_REFUSED_OUTPUT, rumchivoat_pack_colors(MD, color, 4, out, 1));
+}
+
+static void unpack_colors(void) {
+    static const char call[] = "rumchivoat_unpack_colors";
+    static const uint8_t bytes[2] = {0x08, 0x2e}, color[4] = {7, 1, 4, 255};
+    uint8_t *out = lent.out;
+    begin();
+    rumchivoat_written w = rumchivoat_unpack_colors(MD, bytes, 2, out, 5);
+    memcpy(due.out, color, 4);
+    tell(call, 0, is_written(w, 0, 4));
+    no_bytes(call, RUMCHIVOAT_REFUSED_MODE, rumchivoat_unpack_colors(NO_MODE, bytes, 2, out, 4));
+    no_bytes(call, RUMCHIVOAT_REFUSED_LENGTH, rumchivoat_unpack_colors(MD, bytes, 1, out, 4));
+    no_bytes(call, RUMCHIVOAT_REFUSED_OUTPUT, rumchivoat_unpack_colors(MD, bytes, 2, out, 3));
+}
+
+static void channels(void) {
+    static const char reduce[] = "rumchivoat_reduce_channel", scale[] = "rumchivoat_scale_up";
+    begin();
+    /* 100 x 31 / 255 is 12.16; 255 cut to three bits is 7 */
+    tell(reduce, 0, is_number(rumchivoat_reduce_channel(SNES, 100, true), 0, 12));
+    tell(reduce, 0, is_number(rumchivoat_reduce_channel(MD, 255, false), 0, 7));
+    no_number(reduce, RUMCHIVOAT_REFUSED_MODE, rumchivoat_reduce_channel(NO_MODE, 100, true));
+    tell(scale, 0, is_number(rumchivoat_scale_up(GB, 2), 0, 0xaa));
+    no_number(scale, RUMCHIVOAT_REFUSED_MODE, rumchivoat_scale_up(NO_MODE, 2));
+    no_number(scale, RUMCHIVOAT_REFUSED_COMPONENT, rumchivoat_scale_up(GB, 4));
+}
+
+static void pack_entry(void) {
+    static const char call[] = "rumchivoat_pack_entry";
+    uint8_t *out = lent.out;
+    begin();
+    rumchivoat_written w = rumchivoat_pack_entry(SNES, 513, 5, true, false, true, out, 3);
+    due.out[0] = 0x01;
+    due.out[1] = 0x76;
+    tell(call, 0, is_written(w, 0, RUMCHIVOAT_ENTRY_BYTES(SNES)));
+    no_bytes(call, RUMCHIVOAT_REFUSED_MODE, rumchivoat_pack_entry(NO_MODE, 0, 0, false, false, false, out, 2));
+    no_bytes(call, RUMCHIVOAT_REFUSED_PCE_SPRITE, rumchivoat_pack_entry(SPRITE, 0, 0, false, false, false, out, 2));
+    no_bytes(call, RUMCHIVOAT_REFUSED_FIELD, rumchivoat_pack_entry(PCE, 4096, 15, false, false, false, out, 2));
+    no_bytes(call, RUMCHIVOAT_REFUSED_OUTPUT, rumchivoat_pack_entry(SNES, 513, 5, true, false, true, out, 1));
+}
+
+static void unpack_entry(void) {
+    static const char call[] = "rumchivoat_unpack_entry";
+    static const uint8_t bytes[2] = {0x01, 0x76};
+    begin();
+    rumchivoat_entry e = rumchivoat_unpack_entry(SNES, bytes, 2);
+    bool fields = e.tile == 513 && e.palette == 5 && e.flip_h && !e.flip_v && e.priority;
+    tell(call, 0, e.refusal == RUMCHIVOAT_DONE && fields);
+    no_entry(call, RUMCHIVOAT_REFUSED_MODE, rumchivoat_unpack_entry(NO_MODE, bytes, 2));
+    no_entry(call, RUMCHIVOAT_REFUSED_PCE_SPRITE, rumchivoat_unpack_entry(SPRITE, bytes, 2));
+    no_entry(call, RUMCHIVOAT_REFUSED_LENGTH, rumchivoat_unpack_entry(SNES, bytes, 1));
+}
+
+static void tile_index(void) {
+    static const char call[] = "rumchivoat_tile_index";
+    uint8_t *out = lent.out;
+    begin();
+    rumchivoat_written w = rumchivoat_tile_index(SNES, 513, 5, true, false, true, out, 3);
+    due.out[0] = 0x01;
+    due.out[1] = 0x02;
+    tell(call, 0, is_written(w, 0, 2));
+    no_bytes(call, RUMCHIVOAT_REFUSED_MODE, rumchivoat_tile_index(NO_MODE, 0, 0, false, false, false, out, 2));
+    no_bytes(call, RUMCHIVOAT_REFUSED_PCE_SPRITE, rumchivoat_tile_index(SPRITE, 0, 0, false, false, false, out, 2));
+    no_bytes(call, RUMCHIVOAT_REFUSED_FIELD, rumchivoat_tile_index(SNES, 0, 8, false, false, false, out, 2));
+    no_bytes(call, RUMCHIVOAT_REFUSED_OUTPUT, rumchivoat_tile_index(SNES, 513, 5, true, false, true, out, 1));
+}
+
+static void attribute(void) {
+    static const char call[] = "rumchivoat_attribute";
+    begin();
+    tell(call, 0, is_number(rumchivoat_attribute(SNES, 513, 5, true, false, true), 0, 0x74));
+    no_number(call, RUMCHIVOAT_REFUSED_MODE, rumchivoat_attribute(NO_MODE, 0, 0, false, false, false));
+    no_number(call, RUMCHIVOAT_REFUSED_PCE_SPRITE, rumchivoat_attribute(SPRITE, 0, 0, false, false, false));
+    no_number(call, RUMCHIVOAT_REFUSED_FIELD, rumchivoat_attribute(PCE, 0, 0, true, false, false));
+}
+
+/* ---- sets */
+
+/* A set of snes tiles of 16x16 at depth 2, flips and discarding on. */
+static rumchivoat_set set_of(uint32_t limit, uint32_t stored, uint32_t discarded) {
+    rumchivoat_set set = {SNES, 2, 16, 16, true, true, 0, 0, 0};
+    set.limit = limit;
+    set.stored = stored;
+    set.discarded = discarded;
+    return set;
+}
+
+static rumchivoat_set with_mode(rumchivoat_set set, uint32_t mode) {
+    set.mode = mode;
+    return set;
+}
+
+static rumchivoat_set with_depth(rumchivoat_set set, uint32_t depth) {
+    set.depth = depth;
+    return set;
+}
+
+static rumchivoat_set with_width(rumchivoat_set set, uint32_t width) {
+    set.width = width;
+    return set;
+}
+
+/* Pixel i of tile i's first row is 1, and of its first column 2: no two match. */
+static void draw_tile(uint8_t *pixels, uint32_t i) {
     memset(pixels, 0, 256);
-    pixels[12] = 1; /* the fourth tile, each row reversed */
-    pixels[63] = 2;
-    Place p = rumchivoat_set_look_up(set, store, sizeof store, pixels, 256);
-    CHECK(p.refusal == 0 && p.found && p.place == 3 && p.flip_h && !p.flip_v);
-    a = rumchivoat_set_add(set, store, sizeof store, pixels, 255);
-    CHECK(a.refusal == 7 && is(a.set, set));
-    Written w = rumchivoat_set_write(set, store, sizeof store, out, sizeof out);
-    CHECK(w.refusal == 0 && w.written == 1024 && out[1024] == 0xa5);
-    a = rumchivoat_set_read(SNES, 2, 16, 16, true, out, 1024, back, sizeof back);
-    CHECK(a.refusal == 0 && a.set.stored == 16 && a.set.discarding && memcmp(back, store, 9 * 256) == 0);
-    a = rumchivoat_set_reset(set);
-    CHECK(a.refusal == 0 && is(a.set, new));
-    Number n = rumchivoat_native_number(SNES, 16, 16, 8);
-    CHECK(n.refusal == 0 && n.value == 32);
-    n = rumchivoat_logical_number(SNES, 16, 16, 33);
-    CHECK(n.refusal == 0 && n.value == 8);
+    pixels[i] = 1;
+    pixels[16 * i] = 2;
 }
 
-static void pictures(void) {
-    static uint8_t map[8];
-    clear();
-    memset(map, 0xa5, sizeof map);
-    pixels[0] = pixels[15] = 1;
-    Picture p = rumchivoat_convert(SNES, 2, true, true, 0, 0, 2, 1, pixels, 128, out, sizeof out, map, sizeof map);
-    CHECK(p.refusal == 0 && p.tiles == 1 && p.discarded == 1 && p.tile_bytes == 16 && p.map_bytes == 4);
-    CHECK(HOLDS(out, 0x80, 0, 0) && out[16] == 0xa5 && HOLDS(map, 0, 0, 0, 0x40, 0xa5));
-    Written w = rumchivoat_redraw(SNES, 2, 2, 1, out, 16, map, 4, back, sizeof back);
-    CHECK(w.refusal == 0 && w.written == 128 && memcmp(back, pixels, 128) == 0);
-    p = rumchivoat_convert(SNES, 2, false, true, 1, 0, 2, 1, pixels, 128, out, sizeof out, map, sizeof map);
-    CHECK(p.refusal == 12 && p.tiles == 0 && p.discarded == 0 && p.tile_bytes == 0 && p.map_bytes == 0);
+enum { NINE = 9 };
+
+/* Nine tiles in the store, and tile 3 with each row reversed in the pixels. */
+static void begin_set(void) {
+    begin();
+    for (uint32_t i = 0; i < NINE; i++) draw_tile(lent.store + 256 * i, i);
+    memset(lent.pixels, 0, 256);
+    lent.pixels[12] = 1;
+    lent.pixels[63] = 2;
+    keep();
 }
 
-static void program(void) {
-    static const char wrong[] = "mode=snes\n", told[] = "refused=14\n";
-    Written w = rumchivoat_run((const uint8_t *)wrong, sizeof wrong - 1, out, sizeof out);
-    CHECK(w.refusal == 14 && w.written == sizeof told - 1 && memcmp(out, told, sizeof told - 1) == 0);
+static void set_new(void) {
+    static const char call[] = "rumchivoat_set_new";
+    rumchivoat_set none = {0, 0, 0, 0, false, false, 0, 0, 0};
+    begin();
+    same_set(call, 0, rumchivoat_set_new(SNES, 2, 16, 16, true, true, 7), set_of(7, 0, 0));
+    same_set(call, RUMCHIVOAT_REFUSED_MODE, rumchivoat_set_new(NO_MODE, 2, 16, 16, true, true, 7), none);
+    same_set(call, RUMCHIVOAT_REFUSED_DEPTH, rumchivoat_set_new(SNES, 1, 16, 16, true, true, 7), none);
+    same_set(call, RUMCHIVOAT_REFUSED_SIZE, rumchivoat_set_new(MD, 4, 16, 16, true, true, 7), none);
+}
+
+static void set_reset(void) {
+    static const char call[] = "rumchivoat_set_reset";
+    rumchivoat_set set = set_of(7, 5, 2), other;
+    begin();
+    same_set(call, 0, rumchivoat_set_reset(set), set_of(7, 0, 0));
+    other = with_mode(set, NO_MODE);
+    same_set(call, RUMCHIVOAT_REFUSED_MODE, rumchivoat_set_reset(other), other);
+    other = with_depth(set, 1);
+    same_set(call, RUMCHIVOAT_REFUSED_DEPTH, rumchivoat_set_reset(other), other);
+    other = with_width(set, 24);
+    same_set(call, RUMCHIVOAT_REFUSED_SIZE, rumchivoat_set_reset(other), other);
+}
+
+static void set_look_up(void) {
+    static const char call[] = "rumchivoat_set_look_up";
+    rumchivoat_set set = set_of(0, NINE, 0);
+    uint8_t *s = lent.store, *p = lent.pixels;
+    size_t room = NINE * 256;
+    begin_set();
+    rumchivoat_place place = rumchivoat_set_look_up(set, s, room, p, 256);
+    bool third = place.found && place.place == 3 && place.flip_h && !place.flip_v;
+    tell(call, 0, place.refusal == RUMCHIVOAT_DONE && third);
+    no_place(call, RUMCHIVOAT_REFUSED_MODE, rumchivoat_set_look_up(with_mode(set, NO_MODE), s, room, p, 256));
+    no_place(call, RUMCHIVOAT_REFUSED_DEPTH, rumchivoat_set_look_up(with_depth(set, 1), s, room, p, 256));
+    no_place(call, RUMCHIVOAT_REFUSED_SIZE, rumchivoat_set_look_up(with_width(set, 24), s, room, p, 256));
+    no_place(call, RUMCHIVOAT_REFUSED_COUNT, rumchivoat_set_look_up(set_of(0, NINE + 1, 0), s, room, p, 256));
+    no_place(call, RUMCHIVOAT_REFUSED_LENGTH, rumchivoat_set_look_up(set, s, room, p, 255));
+    p[0] = 3;
+    keep();
+    /* nothing found is no refusal */
+    no_place(call, 0, rumchivoat_set_look_up(set, s, room, p, 256));
+}
+
+static void set_add(void) {
+    static const char call[] = "rumchivoat_set_add";
+    rumchivoat_set set = set_of(0, NINE, 0), other;
+    uint8_t *s = lent.store, *p = lent.pixels;
+    size_t full = NINE * 256;
+    begin_set();
+    same_set(call, 0, rumchivoat_set_add(set, s, full, p, 256), set_of(0, NINE, 1));
+    other = with_mode(set, NO_MODE);
+    same_set(call, RUMCHIVOAT_REFUSED_MODE, rumchivoat_set_add(other, s, full, p, 256), other);
+    other = with_depth(set, 1);
+    same_set(call, RUMCHIVOAT_REFUSED_DEPTH, rumchivoat_set_add(other, s, full, p, 256), other);
+    other = with_width(set, 24);
+    same_set(call, RUMCHIVOAT_REFUSED_SIZE, rumchivoat_set_add(other, s, full, p, 256), other);
+    other = set_of(NINE - 1, NINE, 0);
+    same_set(call, RUMCHIVOAT_REFUSED_COUNT, rumchivoat_set_add(other, s, full, p, 256), other);
+    same_set(call, RUMCHIVOAT_REFUSED_LENGTH, rumchivoat_set_add(set, s, full, p, 255), set);
+    other = set_of(0, NINE, 4294967295u);
+    same_set(call, RUMCHIVOAT_REFUSED_DISCARDED, rumchivoat_set_add(other, s, full, p, 256), other);
+    /* a tile that matches none: refused where the store is full, else stored, cut to the depth */
+    p[0] = 4 + 3;
+    keep();
+    same_set(call, RUMCHIVOAT_REFUSED_ROOM, rumchivoat_set_add(set, s, full, p, 256), set);
+    rumchivoat_set_answer stored = rumchivoat_set_add(set, s, full + 256, p, 256);
+    memcpy(due.store + full, lent.pixels, 256);
+    due.store[full] = 3;
+    same_set(call, 0, stored, set_of(0, NINE + 1, 0));
+}
+
+static void set_write(void) {
+    static const char call[] = "rumchivoat_set_write";
+    rumchivoat_set set = set_of(0, NINE, 0);
+    uint8_t *s = lent.store, *out = lent.out;
+    size_t room = NINE * 256;
+    begin_set();
+    rumchivoat_written w = rumchivoat_set_write(set, s, room, out, 1025);
+    /* nine tiles are 64 cells of 16 bytes: tile i begins at cell 2i, or 32 for tile 8, and its second row 16 on */
+    memset(due.out, 0, 1024);
+    for (int i = 0; i < NINE; i++) {
+        uint8_t *cell = due.out + 16 * (i < 8 ? 2 * i : 32), *below = cell + 16 * 16;
+        cell[i < 8 ? 0 : 16] = (uint8_t)(0x80 >> i % 8);
+        if (i < 8) cell[2 * i + 1] = 0x80;
+        else below[1] = 0x80;
+        /* pixel (0,0) of tile 0 is drawn twice, and 2 stays */
+        if (i == 0) cell[0] = 0;
+    }
+    tell(call, 0, is_written(w, 0, 1024));
+    no_bytes(call, RUMCHIVOAT_REFUSED_MODE, rumchivoat_set_write(with_mode(set, NO_MODE), s, room, out, 1024));
+    no_bytes(call, RUMCHIVOAT_REFUSED_DEPTH, rumchivoat_set_write(with_depth(set, 1), s, room, out, 1024));
+    no_bytes(call, RUMCHIVOAT_REFUSED_SIZE, rumchivoat_set_write(with_width(set, 24), s, room, out, 1024));
+    no_bytes(call, RUMCHIVOAT_REFUSED_COUNT, rumchivoat_set_write(set, s, room - 1, out, 1024));
+    no_bytes(call, RUMCHIVOAT_REFUSED_OUTPUT, rumchivoat_set_write(set, s, room, out, 1023));
+    s[room - 1] = 4;
+    keep();
+    no_bytes(call, RUMCHIVOAT_REFUSED_PIXEL, rumchivoat_set_write(set, s, room, out, 1024));
+}
+
+enum { TOO_MANY = 65536 };
+
+static uint8_t many_bytes[TOO_MANY * 8], many_pixels[TOO_MANY * 64];
+
+static bool all_are(const uint8_t *bytes, size_t n, uint8_t byte) {
+    for (size_t i = 0; i < n; i++)
+        if (bytes[i] != byte) return false;
+    return true;
+}
+
+static void set_read(void) {
+    static const char call[] = "rumchivoat_set_read";
+    rumchivoat_set none = {0, 0, 0, 0, false, false, 0, 0, 0};
+    uint8_t *b = lent.bytes, *s = lent.store;
+    begin();
+    memset(b, 0, 1024);
+    /* cell 33 is the upper right one of tile 8 */
+    b[33 * 16] = 0x80;
+    keep();
+    rumchivoat_set_answer a = rumchivoat_set_read(SNES, 2, 16, 16, true, b, 1024, s, sizeof lent.store);
+    memset(due.store, 0, 16 * 256);
+    due.store[8 * 256 + 8] = 1;
+    same_set(call, 0, a, set_of(0, 16, 0));
+    same_set(call, RUMCHIVOAT_REFUSED_MODE, rumchivoat_set_read(NO_MODE, 2, 16, 16, true, b, 1024, s, 4096), none);
+    same_set(call, RUMCHIVOAT_REFUSED_PCE_SPRITE, rumchivoat_set_read(SPRITE, 4, 16, 16, true, b, 1024, s, 4096), none);
+    same_set(call, RUMCHIVOAT_REFUSED_DEPTH, rumchivoat_set_read(SNES, 3, 16, 16, true, b, 1024, s, 4096), none);
+    same_set(call, RUMCHIVOAT_REFUSED_SIZE, rumchivoat_set_read(SNES, 2, 16, 24, true, b, 1024, s, 4096), none);
+    same_set(call, RUMCHIVOAT_REFUSED_LENGTH, rumchivoat_set_read(SNES, 2, 16, 16, true, b, 1023, s, 4096), none);
+    same_set(call, RUMCHIVOAT_REFUSED_OUTPUT, rumchivoat_set_read(SNES, 2, 16, 16, true, b, 1024, s, 4095), none);
+    memset(many_pixels, 0xa5, sizeof many_pixels);
+    a = rumchivoat_set_read(GB, 1, 8, 8, false, many_bytes, sizeof many_bytes, many_pixels, sizeof many_pixels);
+    if (!all_are(many_pixels, sizeof many_pixels, 0xa5)) a.set.stored = TOO_MANY;
+    same_set(call, RUMCHIVOAT_REFUSED_ROOM, a, none);
+}
+
+static void numbers(void) {
+    static const char native[] = "rumchivoat_native_number", logical[] = "rumchivoat_logical_number";
+    begin();
+    tell(native, 0, is_number(rumchivoat_native_number(SNES, 16, 16, 8), 0, 32));
+    no_number(native, RUMCHIVOAT_REFUSED_MODE, rumchivoat_native_number(NO_MODE, 16, 16, 8));
+    no_number(native, RUMCHIVOAT_REFUSED_PCE_SPRITE, rumchivoat_native_number(SPRITE, 16, 16, 8));
+    no_number(native, RUMCHIVOAT_REFUSED_SIZE, rumchivoat_native_number(SNES, 16, 16, 65536));
+    tell(logical, 0, is_number(rumchivoat_logical_number(SNES, 16, 16, 33), 0, 8));
+    no_number(logical, RUMCHIVOAT_REFUSED_MODE, rumchivoat_logical_number(NO_MODE, 16, 16, 33));
+    no_number(logical, RUMCHIVOAT_REFUSED_PCE_SPRITE, rumchivoat_logical_number(SPRITE, 16, 16, 33));
+    no_number(logical, RUMCHIVOAT_REFUSED_SIZE, rumchivoat_logical_number(SNES, 16, 16, 262144));
+}
+
+/* ---- pictures */
+
+static const uint8_t two_tiles[16] = {0x80}, two_entries[4] = {0x00, 0x00, 0x00, 0x40};
+
+/* A picture of 2 x 1 tiles, the right one the left one's mirror image. */
+static void begin_picture(void) {
+    begin();
+    lent.pixels[0] = lent.pixels[15] = 1;
+    keep();
+}
+
+static void convert(void) {
+    static const char call[] = "rumchivoat_convert";
+    uint8_t *p = lent.pixels, *t = lent.out, *m = lent.map;
+    begin_picture();
+    rumchivoat_picture done = rumchivoat_convert(SNES, 2, true, true, 0, 0, 2, 1, p, 128, t, 17, m, 5);
+    memcpy(due.out, two_tiles, 16);
+    memcpy(due.map, two_entries, 4);
+    tell(call, 0, is_picture(done, 0, 1, 1, 16, RUMCHIVOAT_MAP_BYTES(SNES, 2, 1)));
+    no_picture(call, RUMCHIVOAT_REFUSED_MODE,
+               rumchivoat_convert(NO_MODE, 2, true, true, 0, 0, 2, 1, p, 128, t, 32, m, 4));
+    no_picture(call, RUMCHIVOAT_REFUSED_PCE_SPRITE,
+               rumchivoat_convert(SPRITE, 4, false, true, 0, 0, 2, 1, p, 128, t, 64, m, 4));
+    no_picture(call, RUMCHIVOAT_REFUSED_DEPTH,
+               rumchivoat_convert(SNES, 3, true, true, 0, 0, 2, 1, p, 128, t, 48, m, 4));
+    no_picture(call, RUMCHIVOAT_REFUSED_SIZE,
+               rumchivoat_convert(SNES, 2, true, true, 0, 0, 65, 1, p, 128, t, 32, m, 4));
+    no_picture(call, RUMCHIVOAT_REFUSED_FLIPS,
+               rumchivoat_convert(GB, 2, true, true, 0, 0, 2, 1, p, 128, t, 32, m, 4));
+    no_picture(call, RUMCHIVOAT_REFUSED_LENGTH,
+               rumchivoat_convert(SNES, 2, true, true, 0, 0, 2, 1, p, 127, t, 32, m, 4));
+    no_picture(call, RUMCHIVOAT_REFUSED_FIELD,
+               rumchivoat_convert(SNES, 2, true, true, 0, 8, 2, 1, p, 128, t, 32, m, 4));
+    no_picture(call, RUMCHIVOAT_REFUSED_OUTPUT,
+               rumchivoat_convert(SNES, 2, true, true, 0, 0, 2, 1, p, 128, t, 32, m, 3));
+    /* without flips the second tile is to be stored: beyond the limit, then beyond the tile buffer */
+    no_picture(call, RUMCHIVOAT_REFUSED_ROOM,
+               rumchivoat_convert(SNES, 2, false, true, 1, 0, 2, 1, p, 128, t, 32, m, 4));
+    no_picture(call, RUMCHIVOAT_REFUSED_ROOM,
+               rumchivoat_convert(SNES, 2, false, true, 0, 0, 2, 1, p, 128, t, 31, m, 4));
+}
+
+static void redraw(void) {
+    static const char call[] = "rumchivoat_redraw";
+    static const uint8_t names_more[4] = {0x00, 0x00, 0x01, 0x00};
+    const uint8_t *t = two_tiles, *m = two_entries;
+    uint8_t *out = lent.out;
+    begin();
+    rumchivoat_written w = rumchivoat_redraw(SNES, 2, 2, 1, t, 16, m, 4, out, 129);
+    memset(due.out, 0, 128);
+    due.out[0] = due.out[15] = 1;
+    tell(call, 0, is_written(w, 0, RUMCHIVOAT_PICTURE_PIXELS(2, 1)));
+    no_bytes(call, RUMCHIVOAT_REFUSED_MODE, rumchivoat_redraw(NO_MODE, 2, 2, 1, t, 16, m, 4, out, 128));
+    no_bytes(call, RUMCHIVOAT_REFUSED_PCE_SPRITE, rumchivoat_redraw(SPRITE, 4, 2, 1, t, 16, m, 4, out, 128));
+    no_bytes(call, RUMCHIVOAT_REFUSED_DEPTH, rumchivoat_redraw(SNES, 3, 2, 1, t, 16, m, 4, out, 128));
+    no_bytes(call, RUMCHIVOAT_REFUSED_SIZE, rumchivoat_redraw(SNES, 2, 2, 0, t, 16, m, 4, out, 128));
+    no_bytes(call, RUMCHIVOAT_REFUSED_LENGTH, rumchivoat_redraw(SNES, 2, 2, 1, t, 15, m, 4, out, 128));
+    no_bytes(call, RUMCHIVOAT_REFUSED_LENGTH, rumchivoat_redraw(SNES, 2, 2, 1, t, 16, m, 3, out, 128));
+    no_bytes(call, RUMCHIVOAT_REFUSED_LENGTH, rumchivoat_redraw(SNES, 2, 2, 1, t, 16, names_more, 4, out, 128));
+    no_bytes(call, RUMCHIVOAT_REFUSED_OUTPUT, rumchivoat_redraw(SNES, 2, 2, 1, t, 16, m, 4, out, 127));
+}
+
+/* ---- the program on slices */
+
+/* Puts a sheet into the input, its lines and pixels of 0, and answers its length. */
+static size_t put_sheet(const char *lines, size_t pixels) {
+    size_t length = length_of(lines);
+    begin();
+    memcpy(lent.input, lines, length);
+    memset(lent.input + length, 0, pixels);
+    keep();
+    return length + pixels;
+}
+
+/* A run whose text is due. */
+static void runs(uint32_t number, size_t input_len, const void *text, size_t text_len) {
+    rumchivoat_written w = rumchivoat_run(lent.input, input_len, lent.out, sizeof lent.out);
+    memcpy(due.out, text, text_len);
+    tell("rumchivoat_run", number, is_written(w, number, text_len));
+}
+
+static void tells(uint32_t number, const char *lines, size_t pixels, const char *text) {
+    runs(number, put_sheet(lines, pixels), text, length_of(text));
+}
+
+static void run(void) {
+    static const char good[] = "mode=snes\ndepth=2\nflip=1\ndiscard=1\nlimit=0\npalette=0\ncolumns=2\nrows=1\n";
+    static const char report[] = "mode=snes\ndepth=2\nflip=1\ndiscard=1\ncolumns=2\nrows=1\n"
+                                 "tiles=1\ndiscarded=1\ntilebytes=16\nmapbytes=4\n";
+    size_t input_len = put_sheet(good, 128), lines = length_of(report);
+    uint8_t text[256];
+    lent.input[length_of(good)] = lent.input[length_of(good) + 15] = 1;
+    keep();
+    memcpy(text, report, lines);
+    memcpy(text + lines, two_tiles, 16);
+    memcpy(text + lines + 16, two_entries, 4);
+    runs(0, input_len, text, lines + 20);
+    keep();
+    no_bytes("rumchivoat_run", RUMCHIVOAT_REFUSED_OUTPUT, rumchivoat_run(lent.input, input_len, lent.out, lines + 19));
+    tells(RUMCHIVOAT_REFUSED_PCE_SPRITE,
+          "mode=pce_sprite\ndepth=4\nflip=0\ndiscard=1\nlimit=0\npalette=0\ncolumns=2\nrows=1\n", 128, "refused=2\n");
+    tells(RUMCHIVOAT_REFUSED_DEPTH,
+          "mode=snes\ndepth=7\nflip=1\ndiscard=1\nlimit=0\npalette=0\ncolumns=2\nrows=1\n", 128, "refused=3\n");
+    tells(RUMCHIVOAT_REFUSED_SIZE,
+          "mode=snes\ndepth=2\nflip=1\ndiscard=1\nlimit=0\npalette=0\ncolumns=0\nrows=1\n", 0, "refused=4\n");
+    tells(RUMCHIVOAT_REFUSED_FLIPS,
+          "mode=gb\ndepth=2\nflip=1\ndiscard=1\nlimit=0\npalette=0\ncolumns=2\nrows=1\n", 128, "refused=5\n");
+    tells(RUMCHIVOAT_REFUSED_FIELD,
+          "mode=snes\ndepth=2\nflip=1\ndiscard=1\nlimit=0\npalette=8\ncolumns=2\nrows=1\n", 128, "refused=10\n");
+    tells(RUMCHIVOAT_REFUSED_ROOM,
+          "mode=snes\ndepth=2\nflip=1\ndiscard=0\nlimit=1\npalette=0\ncolumns=2\nrows=1\n", 128, "refused=12\n");
+    tells(RUMCHIVOAT_REFUSED_SETTINGS,
+          "mode=snes\ndepth=2\nflip=1\ndiscard=1\nlimit=01\npalette=0\ncolumns=2\nrows=1\n", 128, "refused=14\n");
+    tells(RUMCHIVOAT_REFUSED_SETTINGS, good, 127, "refused=14\n");
+}
+
+/* ---- the sizes and the stack that the header states, on the largest pictures */
+
+static uint8_t all_pixels[RUMCHIVOAT_PICTURE_PIXELS_MOST], all_tiles[RUMCHIVOAT_PICTURE_TILE_BYTES_MOST];
+static uint8_t all_map[RUMCHIVOAT_MAP_BYTES_MOST];
+static uint8_t sheet[RUMCHIVOAT_SHEET_MOST], text[RUMCHIVOAT_TEXT_MOST];
+
+static void draw_different(uint8_t *pixels, uint32_t columns, uint32_t rows) {
+    for (uint32_t i = 0; i < columns * rows; i++)
+        for (uint32_t bit = 0; bit < 12; bit++)
+            pixels[(i / columns * 8 + 1) * columns * 8 + i % columns * 8 + bit % 8 + bit / 8 * columns * 8] =
+                (uint8_t)(i >> bit & 1);
+}
+
+static void stated(const char *what, bool right) {
+    say(what);
+    say(right ? " as stated\n" : " FAILED: not as stated\n");
+    all_right = all_right && right;
+}
+
+/* A call on a stack of its own: noise below, so that what the call took shows. */
+enum { OWN_STACK = 1024 * 1024 };
+
+static uint8_t own_stack[OWN_STACK] __attribute__((aligned(16)));
+
+static size_t stack_of(void (*job)(void)) {
+    size_t untouched = 0;
+    memset(own_stack, 0xa5, sizeof own_stack);
+    __asm__ volatile("movq %%rsp, %%rbx\n\tmovq %0, %%rsp\n\tcallq *%1\n\tmovq %%rbx, %%rsp"
+                     :
+                     : "r"(own_stack + sizeof own_stack), "r"(job)
+                     : "rax", "rbx", "rcx", "rdx", "rsi", "rdi", "r8", "r9", "r10", "r11", "cc", "memory", "xmm0", "xmm1",
+                       "xmm2", "xmm3", "xmm4", "xmm5", "xmm6", "xmm7", "xmm8", "xmm9", "xmm10", "xmm11", "xmm12", "xmm13",
+                       "xmm14", "xmm15");
+    while (untouched < OWN_STACK && own_stack[untouched] == 0xa5) untouched++;
+    return OWN_STACK - untouched;
+}
+
+static void takes(const char *what, void (*job)(void), size_t most) {
+    size_t took = stack_of(job);
+    say(what);
+    say(" took ");
+    say_number(took);
+    say(" bytes of stack, of ");
+    say_number(most);
+    stated("", took <= most);
+}
+
+static rumchivoat_picture largest;
+static rumchivoat_written drawn, longest;
+
+static void convert_largest(void) {
+    largest = rumchivoat_convert(PCE, 4, false, true, 0, 0, 64, 64, all_pixels, sizeof all_pixels, all_tiles,
+                                 sizeof all_tiles, all_map, sizeof all_map);
+}
+
+static void redraw_largest(void) {
+    drawn = rumchivoat_redraw(PCE, 4, 64, 64, all_tiles, sizeof all_tiles, all_map, sizeof all_map, all_pixels,
+                              sizeof all_pixels);
+}
+
+static void run_longest(void) {
+    static const char lines[] = "mode=snes\ndepth=8\nflip=1\ndiscard=0\nlimit=0\npalette=0\ncolumns=32\nrows=32\n";
+    size_t length = sizeof lines - 1;
+    memcpy(sheet, lines, length);
+    longest = rumchivoat_run(sheet, length + RUMCHIVOAT_PICTURE_PIXELS(32, 32), text, sizeof text);
+}
+
+static void figures(void) {
+    draw_different(all_pixels, 64, 64);
+    takes("rumchivoat_convert", convert_largest, RUMCHIVOAT_STACK_CONVERT);
+    stated("the largest picture is",
+           is_picture(largest, 0, 4096, 0, RUMCHIVOAT_PICTURE_TILE_BYTES(4, 64, 64), RUMCHIVOAT_MAP_BYTES(PCE, 64, 64)));
+    takes("rumchivoat_redraw", redraw_largest, RUMCHIVOAT_STACK_OTHERS);
+    stated("the largest redraw is", is_written(drawn, 0, RUMCHIVOAT_PICTURE_PIXELS(64, 64)));
+    takes("rumchivoat_run", run_longest, RUMCHIVOAT_STACK_RUN);
+    stated("the longest text is", is_written(longest, 0, 67691));
+}
+
+static void every_call(void) {
+    interface();
+    pack_tile();
+    unpack_tile();
+    pack_colors();
+    unpack_colors();
+    channels();
+    pack_entry();
+    unpack_entry();
+    tile_index();
+    attribute();
+    set_new();
+    set_reset();
+    set_look_up();
+    set_add();
+    set_write();
+    set_read();
+    numbers();
+    convert();
+    redraw();
+    run();
 }
 
 __attribute__((force_align_arg_pointer)) void _start(void) {
-    tiles();
-    colors();
-    entries();
-    sets();
-    pictures();
-    program();
-    say("calls.c: every function of the x86-64 archive answers by the C rules\n");
-    quit(0);
+    every_call();
+    figures();
+    for (;;) system_call(60, all_right ? 0 : 1, 0, 0);
 }
