@@ -6,7 +6,7 @@
 set -eu
 cd "$(dirname "$0")"
 . host/sh/common.sh
-help_if_asked "$@"
+help_if_asked run.sh "$@"
 # cc is what Rust links with
 need rt cargo cc awk sha256sum
 sh host/sh/archive.sh

@@ -12,7 +12,7 @@
 set -eu
 cd "$(dirname "$0")/.."
 . host/sh/common.sh
-help_if_asked "$@"
+help_if_asked host/native.sh "$@"
 
 crate=rumchivoat
 machine=$(uname -m)

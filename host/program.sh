@@ -8,7 +8,7 @@
 set -eu
 cd "$(dirname "$0")/.."
 . host/sh/common.sh
-help_if_asked "$@"
+help_if_asked host/program.sh "$@"
 need rt
 find_kit
 

@@ -611,6 +611,62 @@ static void run(void) {
     tells(RUMCHIVOAT_REFUSED_SETTINGS, good, 127, "refused=14\n");
 }
 
+/* ---- the third column of docs/REFUSALS.md: what is refused above, cured */
+
+static void cured_tiles(void) {
+    static const uint8_t grays[16] = {3, 3, 3, 255, 2, 2, 2, 255, 1, 1, 1, 255, 0, 0, 0, 255};
+    begin();
+    due.out[0] = due.out[1] = 0xff;
+    tell("rumchivoat_pack_entry", 0,
+         is_written(rumchivoat_pack_entry(PCE, 4095, 15, false, false, false, lent.out, 2), 0, 2));
+    due.out[0] = 0xe4;
+    tell("rumchivoat_pack_colors", 0, is_written(rumchivoat_pack_colors(GB, grays, 16, lent.out, 1), 0, 1));
+    due.out[0] = due.out[1] = 0;
+    tell("rumchivoat_tile_index", 0,
+         is_written(rumchivoat_tile_index(SNES, 0, 7, false, false, false, lent.out, 2), 0, 2));
+    tell("rumchivoat_scale_up", 0, is_number(rumchivoat_scale_up(GB, 3), 0, 255));
+    tell("rumchivoat_native_number", 0, is_number(rumchivoat_native_number(SNES, 8, 8, 65535), 0, 65535));
+}
+
+static void cured_sets(void) {
+    rumchivoat_set full = set_of(0, NINE, 4294967295u), limited = set_of(NINE, NINE, 0), read;
+    uint8_t *s = lent.store, *p = lent.pixels;
+    begin_set();
+    same_set("rumchivoat_set_add", 0, rumchivoat_set_add(limited, s, 2304, p, 256), set_of(NINE, NINE, 1));
+    full = rumchivoat_set_reset(full).set;
+    memcpy(due.store, lent.pixels, 256);
+    same_set("rumchivoat_set_add", 0, rumchivoat_set_add(full, s, 2304, p, 256), set_of(0, 1, 0));
+    same_set("rumchivoat_set_add", 0, rumchivoat_set_add(set_of(0, 1, 0), s, 2304, p, 256), set_of(0, 1, 1));
+    read = rumchivoat_set_read(GB, 1, 8, 8, false, many_bytes, 8 * 65535, many_pixels, sizeof many_pixels).set;
+    tell("rumchivoat_set_read", 0, read.stored == 65535 && all_are(many_pixels, 64 * 65535, 0));
+}
+
+static void cured_pictures(void) {
+    static const uint8_t more[32] = {0x80}, names_more[4] = {0x00, 0x00, 0x01, 0x00};
+    rumchivoat_picture done;
+    rumchivoat_written w;
+    begin_picture();
+    done = rumchivoat_convert(GB, 2, false, true, 2, 0, 2, 1, lent.pixels, 128, lent.out, 32, lent.map, 2);
+    memset(due.out, 0, 32);
+    due.out[0] = 0x80;
+    due.out[16] = 0x01;
+    due.map[0] = 0;
+    due.map[1] = 1;
+    tell("rumchivoat_convert", 0, is_picture(done, 0, 2, 0, 32, 2));
+    w = rumchivoat_redraw(SNES, 2, 2, 1, more, 32, names_more, 4, lent.out, 128);
+    memset(due.out, 0, 128);
+    due.out[0] = 1;
+    tell("rumchivoat_redraw", 0, is_written(w, 0, 128));
+}
+
+static void cured_sheet(void) {
+    static const char lines[] = "mode=snes\ndepth=2\nflip=1\ndiscard=1\nlimit=1\npalette=0\ncolumns=2\nrows=1\n";
+    size_t length = put_sheet(lines, 128);
+    rumchivoat_written w = rumchivoat_run(lent.input, length, lent.out, sizeof lent.out);
+    memcpy(due.out, lent.out, 116);
+    tell("rumchivoat_run", 0, is_written(w, 0, 116));
+}
+
 /* ---- the sizes and the stack that the header states, on the largest pictures */
 
 static uint8_t all_pixels[RUMCHIVOAT_PICTURE_PIXELS_MOST], all_tiles[RUMCHIVOAT_PICTURE_TILE_BYTES_MOST];
@@ -641,9 +697,9 @@ static size_t stack_of(void (*job)(void)) {
     __asm__ volatile("movq %%rsp, %%rbx\n\tmovq %0, %%rsp\n\tcallq *%1\n\tmovq %%rbx, %%rsp"
                      :
                      : "r"(own_stack + sizeof own_stack), "r"(job)
-                     : "rax", "rbx", "rcx", "rdx", "rsi", "rdi", "r8", "r9", "r10", "r11", "cc", "memory", "xmm0", "xmm1",
-                       "xmm2", "xmm3", "xmm4", "xmm5", "xmm6", "xmm7", "xmm8", "xmm9", "xmm10", "xmm11", "xmm12", "xmm13",
-                       "xmm14", "xmm15");
+                     : "rax", "rbx", "rcx", "rdx", "rsi", "rdi", "r8", "r9", "r10", "r11", "cc", "memory", "xmm0",
+                       "xmm1", "xmm2", "xmm3", "xmm4", "xmm5", "xmm6", "xmm7", "xmm8", "xmm9", "xmm10", "xmm11",
+                       "xmm12", "xmm13", "xmm14", "xmm15");
     while (untouched < OWN_STACK && own_stack[untouched] == 0xa5) untouched++;
     return OWN_STACK - untouched;
 }
@@ -681,8 +737,8 @@ static void run_longest(void) {
 static void figures(void) {
     draw_different(all_pixels, 64, 64);
     takes("rumchivoat_convert", convert_largest, RUMCHIVOAT_STACK_CONVERT);
-    stated("the largest picture is",
-           is_picture(largest, 0, 4096, 0, RUMCHIVOAT_PICTURE_TILE_BYTES(4, 64, 64), RUMCHIVOAT_MAP_BYTES(PCE, 64, 64)));
+    stated("the largest picture is", is_picture(largest, 0, 4096, 0, RUMCHIVOAT_PICTURE_TILE_BYTES(4, 64, 64),
+                                                RUMCHIVOAT_MAP_BYTES(PCE, 64, 64)));
     takes("rumchivoat_redraw", redraw_largest, RUMCHIVOAT_STACK_OTHERS);
     stated("the largest redraw is", is_written(drawn, 0, RUMCHIVOAT_PICTURE_PIXELS(64, 64)));
     takes("rumchivoat_run", run_longest, RUMCHIVOAT_STACK_RUN);
@@ -710,6 +766,10 @@ static void every_call(void) {
     convert();
     redraw();
     run();
+    cured_tiles();
+    cured_sets();
+    cured_pictures();
+    cured_sheet();
 }
 
 __attribute__((force_align_arg_pointer)) void _start(void) {

@@ -2,14 +2,14 @@
 # sh host/c/calls.sh
 #
 # Compiles calls.c for x86-64 as C99 and as C++17, links target/staticlib/librumchivoat.a, the archive that stations
-# link, and runs both: on another processor under the kit's emulator. The calls that they tell of are held to the exports
-# of crates/rumchivoat, to the header and to the table in docs/REFUSALS.md. The compiler is the kit's; where the system
-# has one of its own, the header is read with that one too. Run `rt staticlib rumchivoat` first.
+# link, and runs both: on another processor under the kit's emulator. The calls that they tell of are held to the
+# exports of crates/rumchivoat, to the header and to the table in docs/REFUSALS.md. The compiler is the kit's; where the
+# system has one of its own, the header is read with that one too. Run `rt staticlib rumchivoat` first.
 # Status 3 where a tool or the archive is missing, 1 where anything differs.
 set -eu
 cd "$(dirname "$0")/../.."
 . host/sh/common.sh
-help_if_asked "$@"
+help_if_asked host/c/calls.sh "$@"
 need rt awk grep sed sort cmp
 find_kit
 
@@ -94,4 +94,6 @@ for standard in c99 c++17; do
     same "the refusals of calls.c are not those of docs/REFUSALS.md" "$place/refused" "$place/table"
 done
 grep ' of stack, ' "$place/calls-c99.said" | sed 's/^/calls.c: /'
-echo "calls.sh: as C99 and as C++17: $(wc -l <"$place/exports") functions, each done; $(wc -l <"$place/table") kinds of refusal, each with every lent byte as it was"
+functions=$(wc -l <"$place/exports")
+refusals=$(wc -l <"$place/table")
+echo "calls.sh: as C99 and as C++17, $functions functions done, and refused in $refusals ways, no lent byte changed"

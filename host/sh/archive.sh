@@ -2,12 +2,12 @@
 # sh host/sh/archive.sh
 #
 # Proves and writes the archive that hosts link: target/staticlib/librumchivoat.a, for x86-64, and on another processor
-# target/native/librumchivoat.a beside it (host/native.sh). What stands there and was made from the crates as they are is
-# left alone. Status 3 where a tool is missing, 1 where something is not proved.
+# target/native/librumchivoat.a beside it (host/native.sh). What stands there and was made from the crates as they are
+# is left alone. Status 3 where a tool is missing; rt's own, not 0, where something is not proved.
 set -eu
 cd "$(dirname "$0")/../.."
 . host/sh/common.sh
-help_if_asked "$@"
+help_if_asked host/sh/archive.sh "$@"
 need rt awk sha256sum
 find_kit
 

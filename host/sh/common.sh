@@ -1,18 +1,16 @@
 # What the scripts share. A script reads it from the top of the repository: `. host/sh/common.sh`.
 
-# One line on standard error, with the script's name, and the end of it: fail STATUS WORDS..
+# One line on standard error, with the script's name, and the end of it: fail STATUS WORDS
 fail() {
-    status=$1
-    shift
-    echo "${0##*/}: $*" >&2
-    exit "$status"
+    printf '%s: %s\n' "${script:-${0##*/}}" "$2" >&2
+    exit "$1"
 }
 
-# The comment at the head of a script is its help.
+# The comment at the head of a script is its help: help_if_asked SCRIPT "$@", the script's path from the top.
 help_if_asked() {
-    case ${1-} in
+    case ${2-} in
     -h | --help)
-        sed -n '2,/^[^#]/s/^# \{0,1\}//p' "$0"
+        sed -n '2,/^[^#]/ { s/^# //p; s/^#$//p; }' "$1"
         exit 0
         ;;
     esac
@@ -47,8 +45,8 @@ find_kit() {
 
 # ---- work that is done is not done again
 #
-# rt keeps what it proved, but writes an archive anew each time, and looks at every crate each time. A file that was made
-# from the crates has a mark beside it, FILE.made: a hash of all that it came from, and one of the file. It goes by
+# rt keeps what it proved, but writes an archive anew each time, and looks at every crate each time. A file that was
+# made from the crates has a mark beside it, FILE.made: a hash of all that it came from, and one of the file. It goes by
 # content, since a file's time says little after a checkout or a copy.
 
 # A hash of the crates, the kit, the processor, and further files that the work goes by.
