@@ -11,13 +11,21 @@ help_if_asked host/sh/archive.sh "$@"
 need rt awk sha256sum
 find_kit
 
+# The crates of this repository that the archive's crate stands on.
+below() {
+    for crate in $(sed -n 's/#.*//; s/^rumchivoat[[:space:]]*://p' crates.txt); do
+        [ ! -d "crates/$crate" ] || echo "$crate"
+    done
+}
+
 archive=target/staticlib/librumchivoat.a
 sources=$(sources)
 if is_made "$archive" "$sources"; then
     echo "archive.sh: $archive stands, proved from these crates"
 else
-    # rt staticlib proves what it needs one crate after the other; rt check uses every core
-    rt check rumchivoat
+    # rt staticlib would prove these one after the other; rt check uses every core
+    # shellcheck disable=SC2046
+    rt check $(below)
     rt staticlib rumchivoat
     [ "$(sources)" = "$sources" ] || fail 1 "a file under crates changed meanwhile: run it again"
     mark_made "$archive" "$sources"
