@@ -15,7 +15,8 @@ set -u
 sheet_given=$#
 sheet=${1-}
 start=$(pwd)
-cd "$(dirname "$0")" || exit 3
+# a search path for folders would have cd print where it went
+CDPATH='' cd "$(dirname "$0")" || exit 3
 . host/sh/common.sh
 help_if_asked convert.sh "$@"
 [ $# -le 1 ] || fail 2 "takes one sheet, or none: --help says more"

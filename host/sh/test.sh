@@ -73,7 +73,13 @@ converted() {
     (cd "$work" && sh "$top/convert.sh" "a sheet") >"$work/out" 2>"$work/err" || ended=$?
     ends "a sheet beside the caller" 0 ""
     sha256sum --check --status examples/window.sha256 <"$work/out" || differs "a sheet beside the caller: another hash"
+    mkdir -p "$work/decoy/${top##*/}"
     ended=0
+    (cd .. && CDPATH=$work/decoy sh "${top##*/}/convert.sh" "$work/a sheet") >"$work/out" 2>"$work/err" || ended=$?
+    ends "a search path for folders" 0 ""
+    sha256sum --check --status examples/window.sha256 <"$work/out" || differs "a search path for folders: another hash"
+    ended=0
+    # shellcheck disable=SC2002
     cat examples/window.sheet | sh convert.sh >"$work/out" 2>"$work/err" || ended=$?
     ends "a sheet on standard input" 0 ""
     sha256sum --check --status examples/window.sha256 <"$work/out" || differs "a sheet on standard input: another hash"
@@ -181,6 +187,13 @@ not_written() {
     } | head -c 1 >/dev/null
     ended=$(cat "$work/ended")
     ends_saying "a reader that leaves" 2 "convert.sh: the output could not be written whole"
+    # files of 66,560 bytes at most: the sheet has 65,610, its text 67,691
+    ended=0
+    (ulimit -f 130 && sh convert.sh "$work/sheet") >"$work/out" 2>"$work/err" || ended=$?
+    ends_saying "no space for the text" 2 "convert.sh: there is no space for the text"
+    [ ! -s "$work/out" ] || differs "no space for the text: a part was written"
+    run env TMPDIR="$work/none" sh convert.sh examples/window.sheet
+    ends_saying "no folder for the text" 2 "convert.sh: there is no place for the text"
 }
 
 # ---- the README's way to compare with a master
