@@ -85,7 +85,7 @@ EOF
 
 # The crates that crates.txt gives to $crate.
 dependencies() {
-    sed -n "s/#.*//; s/^[[:space:]]*$crate[[:space:]]*://p" crates.txt
+    sed -n "s/#.*//; s/^[[:space:]]*${crate}[[:space:]]*://p" crates.txt
 }
 
 # The words of `rattle build` for the libraries, as rt passes them.

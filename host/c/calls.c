@@ -265,6 +265,7 @@ static void pack_entry(void) {
     no_bytes(call, RUMCHIVOAT_REFUSED_MODE, rumchivoat_pack_entry(NO_MODE, 0, 0, false, false, false, out, 2));
     no_bytes(call, RUMCHIVOAT_REFUSED_PCE_SPRITE, rumchivoat_pack_entry(SPRITE, 0, 0, false, false, false, out, 2));
     no_bytes(call, RUMCHIVOAT_REFUSED_FIELD, rumchivoat_pack_entry(PCE, 4096, 15, false, false, false, out, 2));
+    no_bytes(call, RUMCHIVOAT_REFUSED_FIELD, rumchivoat_pack_entry(PCE, 4095, 15, true, false, false, out, 2));
     no_bytes(call, RUMCHIVOAT_REFUSED_OUTPUT, rumchivoat_pack_entry(SNES, 513, 5, true, false, true, out, 1));
 }
 

@@ -95,9 +95,9 @@
 
 /* ---- the most stack that a call takes, in bytes */
 
-#define RUMCHIVOAT_STACK_CONVERT 311296 /* rumchivoat_convert: 304 KiB */
-#define RUMCHIVOAT_STACK_RUN 450560     /* rumchivoat_run: 440 KiB */
-#define RUMCHIVOAT_STACK_OTHERS 8192    /* each of the others: 8 KiB */
+#define RUMCHIVOAT_STACK_CONVERT 311296 /* rumchivoat_convert */
+#define RUMCHIVOAT_STACK_RUN 450560     /* rumchivoat_run */
+#define RUMCHIVOAT_STACK_OTHERS 8192    /* each of the others */
 
 #ifdef __cplusplus
 extern "C" {
