@@ -38,6 +38,7 @@ pub extern "C" fn rumchivoat_interface() -> u32
     1
 }
 
+// A native tile: pixels to the mode's bytes.
 #[no_mangle]
 pub extern "C" fn rumchivoat_pack_tile(
     mode: u32,
@@ -52,6 +53,7 @@ pub extern "C" fn rumchivoat_pack_tile(
     tile::pack_tile(mode, depth, width, height, pixels, out)
 }
 
+// And back.
 #[no_mangle]
 pub extern "C" fn rumchivoat_unpack_tile(
     mode: u32,
@@ -66,6 +68,7 @@ pub extern "C" fn rumchivoat_unpack_tile(
     tile::unpack_tile(mode, depth, width, height, bytes, out)
 }
 
+// Colours of four bytes each, r, g, b, a, to the mode's bytes.
 #[no_mangle]
 pub extern "C" fn rumchivoat_pack_colors(mode: u32, colors: &[u8], out: &mut [u8]) -> Written
     ensures { λ r. ⌜ Wrote (packSays mode (now (colors .entry)) (length (now (out .entry)))) (packed mode (now (colors .entry))) (now (out .entry)) r (now (out .exit)) ⌝ }
@@ -73,6 +76,7 @@ pub extern "C" fn rumchivoat_pack_colors(mode: u32, colors: &[u8], out: &mut [u8
     color::pack_colors(mode, colors, out)
 }
 
+// And back, with alpha 255.
 #[no_mangle]
 pub extern "C" fn rumchivoat_unpack_colors(mode: u32, bytes: &[u8], out: &mut [u8]) -> Written
     ensures { λ r. ⌜ Wrote (unpackSays mode (length (now (bytes .entry))) (length (now (out .entry)))) (unpacked mode (now (bytes .entry))) (now (out .entry)) r (now (out .exit)) ⌝ }
@@ -80,6 +84,7 @@ pub extern "C" fn rumchivoat_unpack_colors(mode: u32, bytes: &[u8], out: &mut [u
     color::unpack_colors(mode, bytes, out)
 }
 
+// The station's bool as the kind of rounding.
 fn rounding_of(nearest: bool) -> Rounding
     ensures { λ r. ⌜ r ≡ roundingOf nearest ⌝ }
 {
@@ -90,6 +95,7 @@ fn rounding_of(nearest: bool) -> Rounding
     }
 }
 
+// A channel of 0 to 255 to the mode's components, nearest or cut.
 #[no_mangle]
 pub extern "C" fn rumchivoat_reduce_channel(mode: u32, value: u8, nearest: bool) -> Number
     ensures { λ r. ⌜ r ≡ numbered (modeSays mode) (reduced (roundingOf nearest) (row mode .top) value) ⌝ }
@@ -97,6 +103,7 @@ pub extern "C" fn rumchivoat_reduce_channel(mode: u32, value: u8, nearest: bool)
     color::reduce_channel(mode, value, rounding_of(nearest))
 }
 
+// A component to a channel of 0 to 255.
 #[no_mangle]
 pub extern "C" fn rumchivoat_scale_up(mode: u32, component: u32) -> Number
     ensures { λ r. ⌜ r ≡ numbered (scaleSays mode component) (scaledUp (row mode .top) component) ⌝ }
@@ -104,6 +111,7 @@ pub extern "C" fn rumchivoat_scale_up(mode: u32, component: u32) -> Number
     color::scale_up(mode, component)
 }
 
+// The station's numbers as an entry.
 fn entry_from(tile: u32, palette: u32, flip_h: bool, flip_v: bool, priority: bool) -> Mapentry
     ensures { λ r. ⌜ r ≡ entryFrom tile palette «flip_h» «flip_v» priority ⌝ }
 {
@@ -116,6 +124,7 @@ fn entry_from(tile: u32, palette: u32, flip_h: bool, flip_v: bool, priority: boo
     }
 }
 
+// A map entry to the mode's bytes.
 #[no_mangle]
 pub extern "C" fn rumchivoat_pack_entry(
     mode: u32,
@@ -135,6 +144,7 @@ pub extern "C" fn rumchivoat_pack_entry(
     )
 }
 
+// And back.
 #[no_mangle]
 pub extern "C" fn rumchivoat_unpack_entry(mode: u32, bytes: &[u8]) -> Entry
     ensures { λ r. ⌜ r ≡ entry.entered (entry.readSays mode (length (now (bytes .entry)))) (entry.entryOf mode (now (bytes .entry))) ⌝ }
@@ -142,6 +152,7 @@ pub extern "C" fn rumchivoat_unpack_entry(mode: u32, bytes: &[u8]) -> Entry
     mapentry::unpack_mapentry(mode, bytes)
 }
 
+// An entry's tile index by itself, as bytes.
 #[no_mangle]
 pub extern "C" fn rumchivoat_tile_index(
     mode: u32,
@@ -161,6 +172,7 @@ pub extern "C" fn rumchivoat_tile_index(
     )
 }
 
+// What is left of an entry beside its tile index.
 #[no_mangle]
 pub extern "C" fn rumchivoat_attribute(
     mode: u32,
@@ -175,6 +187,7 @@ pub extern "C" fn rumchivoat_attribute(
     mapentry::get_attribute(mode, entry_from(tile, palette, flip_h, flip_v, priority))
 }
 
+// A set of no tiles.
 #[no_mangle]
 pub extern "C" fn rumchivoat_set_new(
     mode: u32,
@@ -190,6 +203,7 @@ pub extern "C" fn rumchivoat_set_new(
     tileset::set_new(mode, depth, width, height, flips, discarding, limit)
 }
 
+// A set with both counts 0.
 #[no_mangle]
 pub extern "C" fn rumchivoat_set_reset(set: Set) -> SetAnswer
     ensures { λ r. ⌜ r ≡ answeredSet (setSays (set .mode) (set .depth) (set .width) (set .height)) (emptied set) set ⌝ }
@@ -197,6 +211,7 @@ pub extern "C" fn rumchivoat_set_reset(set: Set) -> SetAnswer
     tileset::set_reset(set)
 }
 
+// The first tile of a set that matches, and its flip.
 #[no_mangle]
 pub extern "C" fn rumchivoat_set_look_up(set: Set, store: &[u8], pixels: &[u8]) -> Place
     ensures { λ r. ⌜ r ≡ placed (lookSays set (length (now (store .entry))) (length (now (pixels .entry)))) (foundIn set (now (store .entry)) (now (pixels .entry))) ⌝ }
@@ -204,6 +219,7 @@ pub extern "C" fn rumchivoat_set_look_up(set: Set, store: &[u8], pixels: &[u8]) 
     tileset::look_up(set, store, pixels)
 }
 
+// A set with one tile more: stored, or discarded where it matches.
 #[no_mangle]
 pub extern "C" fn rumchivoat_set_add(set: Set, store: &mut [u8], pixels: &[u8]) -> SetAnswer
     ensures { λ r. ⌜ Adds (addSays set (now (store .entry)) (now (pixels .entry))) set (added set (now (store .entry)) (now (pixels .entry))) (now (store .entry)) (storeWith set (now (store .entry)) (now (pixels .entry))) r (now (store .exit)) ⌝ }
@@ -211,6 +227,7 @@ pub extern "C" fn rumchivoat_set_add(set: Set, store: &mut [u8], pixels: &[u8]) 
     tileset::add(set, store, pixels)
 }
 
+// A set's tiles as the mode's bytes.
 #[no_mangle]
 pub extern "C" fn rumchivoat_set_write(set: Set, store: &[u8], out: &mut [u8]) -> Written
     ensures { λ r. ⌜ Wrote (writeSays set (now (store .entry)) (length (now (out .entry)))) (setBytes set (now (store .entry))) (now (out .entry)) r (now (out .exit)) ⌝ }
@@ -218,6 +235,7 @@ pub extern "C" fn rumchivoat_set_write(set: Set, store: &[u8], out: &mut [u8]) -
     tileset::write(set, store, out)
 }
 
+// A set from the mode's bytes.
 #[no_mangle]
 pub extern "C" fn rumchivoat_set_read(
     mode: u32,
@@ -233,6 +251,7 @@ pub extern "C" fn rumchivoat_set_read(
     tileset::read(mode, depth, width, height, flips, bytes, store)
 }
 
+// The cell at which a tile starts.
 #[no_mangle]
 pub extern "C" fn rumchivoat_native_number(
     mode: u32,
@@ -249,6 +268,7 @@ pub extern "C" fn rumchivoat_native_number(
     }
 }
 
+// The tile that a cell belongs to.
 #[no_mangle]
 pub extern "C" fn rumchivoat_logical_number(
     mode: u32,
@@ -265,6 +285,7 @@ pub extern "C" fn rumchivoat_logical_number(
     }
 }
 
+// A picture to tiles and a map.
 #[no_mangle]
 pub extern "C" fn rumchivoat_convert(
     mode: u32,
@@ -294,6 +315,7 @@ pub extern "C" fn rumchivoat_convert(
     picture::convert(settings, pixels, tiles, map)
 }
 
+// And back.
 #[no_mangle]
 pub extern "C" fn rumchivoat_redraw(
     mode: u32,
@@ -309,6 +331,7 @@ pub extern "C" fn rumchivoat_redraw(
     picture::redraw(mode, depth, columns, rows, tiles, map, out)
 }
 
+// The program on slices: all that it would write for an input.
 #[no_mangle]
 pub extern "C" fn rumchivoat_run(input: &[u8], out: &mut [u8]) -> Written
     ensures { λ r. ⌜ Ran (numberOf (now (input .entry))) (textOf (now (input .entry))) (now (out .entry)) r (now (out .exit)) ⌝ }
