@@ -1,8 +1,15 @@
 //! Finds the archive to link: `target/staticlib` on x86-64, for which `rt staticlib` writes, and `target/native`, by
 //! `host/native.sh`, on another processor. `RUMCHIVOAT_ARCHIVE` can name another folder.
+//!
+//! Without the archive the crate can be checked and documented, and not linked: a build cannot tell here which of them
+//! it is, so the cure is a warning, and the compiler's own error follows it where the archive is needed.
 
 use std::env;
-use std::path::PathBuf;
+use std::fs;
+use std::path::{Path, PathBuf};
+
+/// The function that every archive with an interface number has. One from before there was a number has not.
+const INTERFACE: &str = "rumchivoat_interface";
 
 fn main() {
     println!("cargo::rerun-if-env-changed=RUMCHIVOAT_ARCHIVE");
@@ -10,11 +17,19 @@ fn main() {
     let folder = archive_folder();
     let archive = folder.join("librumchivoat.a");
     println!("cargo::rerun-if-changed={}", archive.display());
-    if archive.is_file() {
-        println!("cargo::rustc-link-search=native={}", folder.display());
-        println!("cargo::rustc-link-lib=static=rumchivoat");
-    } else {
-        println!("cargo::error={} is not there: {}", archive.display(), how_to_make_it());
+    match fs::read(&archive) {
+        Ok(bytes) => check_interface(&archive, &bytes),
+        Err(error) => println!("cargo::warning={} cannot be read ({error}): {}", archive.display(), cure()),
+    }
+    println!("cargo::rustc-link-search=native={}", folder.display());
+    println!("cargo::rustc-link-lib=static=rumchivoat");
+}
+
+/// The archive's list of symbols has the name as it is.
+fn check_interface(archive: &Path, bytes: &[u8]) {
+    if !bytes.windows(INTERFACE.len()).any(|part| part == INTERFACE.as_bytes()) {
+        let cause = "is from before there was an interface number";
+        println!("cargo::error={} {cause}: {}", archive.display(), cure());
     }
 }
 
@@ -30,10 +45,11 @@ fn archive_folder() -> PathBuf {
     host.join(if on_x86_64() { "../target/staticlib" } else { "../target/native" })
 }
 
-fn how_to_make_it() -> &'static str {
+fn cure() -> &'static str {
     if on_x86_64() {
-        "run `rt staticlib rumchivoat` at the top of the repository"
+        "run `rt staticlib rumchivoat` at the top of the repository, or name the archive's folder in RUMCHIVOAT_ARCHIVE"
     } else {
-        "run `rt staticlib rumchivoat`, then `sh host/native.sh`, at the top of the repository"
+        "run `rt staticlib rumchivoat`, then `sh host/native.sh`, at the top of the repository, or name the archive's \
+         folder in RUMCHIVOAT_ARCHIVE"
     }
 }

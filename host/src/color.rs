@@ -1,6 +1,7 @@
 //! Colours, and one channel of a colour.
 
-use crate::{Refusal, raw};
+use crate::mode::Colors;
+use crate::{Cause, Mode, Refusal, Refused, raw};
 
 /// How a channel's value, 0 to 255, is brought down to a mode's components.
 #[derive(Debug, Clone, Copy, PartialEq, Eq)]
@@ -14,7 +15,11 @@ pub enum Rounding {
 /// Packs colours, four bytes each (r, g, b, a), into the mode's bytes, and answers the length written. Alpha is ignored;
 /// gb, ngp and ws read red only, and gb and ws take exactly four colours.
 ///
-/// Refused, the lowest first: [`Refusal::Mode`], [`Refusal::Length`], [`Refusal::Component`], [`Refusal::Output`].
+/// # Errors
+///
+/// The lowest first: [`Refusal::Mode`], [`Refusal::Length`], [`Refusal::Component`], [`Refusal::Output`].
+///
+/// # Example
 ///
 /// ```
 /// use rumchivoat::{Mode, Refusal, pack_colors};
@@ -44,7 +49,11 @@ pub fn pack_colors(mode: impl Into<u32>, colors: &[u8], out: &mut [u8]) -> Resul
 /// Unpacks the mode's bytes into colours, four bytes each (r, g, b, 255), and answers the length written. Unused bits
 /// are ignored; gb takes exactly one byte, ws two, ngp four.
 ///
-/// Refused, the lowest first: [`Refusal::Mode`], [`Refusal::Length`], [`Refusal::Output`].
+/// # Errors
+///
+/// The lowest first: [`Refusal::Mode`], [`Refusal::Length`], [`Refusal::Output`].
+///
+/// # Example
 ///
 /// ```
 /// use rumchivoat::{Mode, Refusal, unpack_colors};
@@ -61,7 +70,11 @@ pub fn unpack_colors(mode: impl Into<u32>, bytes: &[u8], out: &mut [u8]) -> Resu
 
 /// Brings one channel's value down to a component of the mode, 0 to its top.
 ///
-/// Refused: [`Refusal::Mode`].
+/// # Errors
+///
+/// [`Refusal::Mode`].
+///
+/// # Example
 ///
 /// ```
 /// use rumchivoat::{Mode, Rounding, reduce_channel};
@@ -76,7 +89,11 @@ pub fn reduce_channel(mode: impl Into<u32>, value: u8, rounding: Rounding) -> Re
 /// Brings a component of the mode up to 0 to 255, by repeating its bits. Reducing the result, by either rounding, gives
 /// the component again.
 ///
-/// Refused, the lowest first: [`Refusal::Mode`], [`Refusal::Component`].
+/// # Errors
+///
+/// The lowest first: [`Refusal::Mode`], [`Refusal::Component`].
+///
+/// # Example
 ///
 /// ```
 /// use rumchivoat::{Mode, Refusal, scale_up};
@@ -87,4 +104,121 @@ pub fn reduce_channel(mode: impl Into<u32>, value: u8, rounding: Rounding) -> Re
 /// ```
 pub fn scale_up(mode: impl Into<u32>, component: u32) -> Result<u8, Refusal> {
     raw::scale_up(mode.into(), component).byte()
+}
+
+/// The bytes of a colour, r, g, b and a.
+const COLOR_BYTES: usize = 4;
+
+/// The colours of a palette where a mode takes exactly so many.
+const FOUR: usize = 4;
+
+/// Packs colours as [`pack_colors`] does, into a `Vec` of exactly the mode's bytes.
+///
+/// # Errors
+///
+/// The lowest first: [`Refusal::Mode`], [`Refusal::Length`], [`Refusal::Component`], with their causes.
+///
+/// # Example
+///
+/// ```
+/// use rumchivoat::{Mode, Refused, pack_colors_to_vec};
+///
+/// assert_eq!(pack_colors_to_vec(Mode::Snes, &[31, 0, 16, 255])?, [0x1f, 0x40]);
+/// let refused = pack_colors_to_vec(Mode::Snes, &[0, 0, 0, 255, 0, 32, 0, 255]).unwrap_err();
+/// assert_eq!(refused.to_string(), "refused 9: colour 1 has a component of 32, and snes's top is 31");
+/// # Ok::<(), Refused>(())
+/// ```
+pub fn pack_colors_to_vec(mode: impl Into<u32>, colors: &[u8]) -> Result<Vec<u8>, Refused> {
+    let mode = mode.into();
+    let mut out = vec![0; packed_most(mode, colors.len())];
+    let written = pack_colors(mode, colors, &mut out)
+        .map_err(|refusal| Refused::new(refusal, why_not_packed(refusal, mode, colors)))?;
+    out.truncate(written);
+    Ok(out)
+}
+
+/// Unpacks colours as [`unpack_colors`] does, into a `Vec` of four bytes for each colour.
+///
+/// # Errors
+///
+/// The lowest first: [`Refusal::Mode`], [`Refusal::Length`], with their causes.
+///
+/// # Example
+///
+/// ```
+/// use rumchivoat::{Mode, Refused, unpack_colors_to_vec};
+///
+/// assert_eq!(unpack_colors_to_vec(Mode::Snes, &[0x1f, 0x40])?, [31, 0, 16, 255]);
+/// let refused = unpack_colors_to_vec(Mode::Ngp, &[7; 3]).unwrap_err();
+/// assert_eq!(refused.to_string(), "refused 7: 4 bytes are needed, 3 were given");
+/// # Ok::<(), Refused>(())
+/// ```
+pub fn unpack_colors_to_vec(mode: impl Into<u32>, bytes: &[u8]) -> Result<Vec<u8>, Refused> {
+    let mode = mode.into();
+    let mut out = vec![0; unpacked_most(mode, bytes.len())];
+    let written = unpack_colors(mode, bytes, &mut out)
+        .map_err(|refusal| Refused::new(refusal, why_not_unpacked(refusal, mode, bytes.len())))?;
+    out.truncate(written);
+    Ok(out)
+}
+
+/// As many bytes as colours of this length pack to, where they are packed.
+fn packed_most(mode: u32, length: usize) -> usize {
+    match Mode::try_from(mode).map(Mode::colors) {
+        Ok(Colors::Each(bytes)) => length / COLOR_BYTES * bytes,
+        Ok(Colors::Four(bytes)) => *bytes,
+        Ok(Colors::Grays) => length / COLOR_BYTES,
+        Err(_) => 0,
+    }
+}
+
+/// As many bytes as mode bytes of this length unpack to, where they are unpacked.
+fn unpacked_most(mode: u32, length: usize) -> usize {
+    match Mode::try_from(mode).map(Mode::colors) {
+        Ok(Colors::Each(bytes)) => length / bytes * COLOR_BYTES,
+        Ok(Colors::Four(_) | Colors::Grays) => FOUR * COLOR_BYTES,
+        Err(_) => 0,
+    }
+}
+
+fn why_not_packed(refusal: Refusal, number: u32, colors: &[u8]) -> Cause {
+    match refusal {
+        Refusal::Mode => Cause::Mode { number },
+        Refusal::Length => Cause::in_mode(number, |mode| unpackable(mode, colors.len())),
+        Refusal::Component => Cause::in_mode(number, |mode| above_top(mode, colors)),
+        _ => Cause::Plain,
+    }
+}
+
+/// Why colours of this length are not packed.
+fn unpackable(mode: Mode, length: usize) -> Cause {
+    match mode.colors() {
+        Colors::Four(_) if length % COLOR_BYTES == 0 => {
+            Cause::Length { what: "colour", needed: FOUR, given: length / COLOR_BYTES }
+        }
+        _ => Cause::Whole { what: "byte", part: COLOR_BYTES, given: length },
+    }
+}
+
+/// The first component above the mode's top; alpha is none.
+fn above_top(mode: Mode, colors: &[u8]) -> Cause {
+    let components = colors.chunks_exact(COLOR_BYTES).enumerate().flat_map(|(color, bytes)| {
+        let components = bytes.iter().take(COLOR_BYTES - 1);
+        components.map(move |&value| (color, value))
+    });
+    let above = components.into_iter().find(|&(_, value)| value > mode.top());
+    above.map_or(Cause::Plain, |(color, value)| Cause::Component { mode, value, color })
+}
+
+fn why_not_unpacked(refusal: Refusal, number: u32, given: usize) -> Cause {
+    let length = |mode: Mode| match *mode.colors() {
+        Colors::Each(part) => Cause::Whole { what: "byte", part, given },
+        Colors::Four(needed) => Cause::Length { what: "byte", needed, given },
+        Colors::Grays => Cause::Length { what: "byte", needed: FOUR, given },
+    };
+    match refusal {
+        Refusal::Mode => Cause::Mode { number },
+        Refusal::Length => Cause::in_mode(number, length),
+        _ => Cause::Plain,
+    }
 }

@@ -1,6 +1,6 @@
 //! Map entries.
 
-use crate::{Refusal, raw};
+use crate::{Cause, Mode, Refusal, Refused, raw};
 
 /// A map entry. Each mode has its own bits for each field; a field that they cannot hold is [`Refusal::Field`].
 #[derive(Debug, Clone, Copy, PartialEq, Eq, Hash, Default)]
@@ -19,7 +19,11 @@ pub struct Entry {
 
 /// Packs an entry into the mode's one or two bytes, and answers their number. Unused bits are 0.
 ///
-/// Refused, the lowest first: [`Refusal::Mode`], [`Refusal::PceSprite`], [`Refusal::Field`], [`Refusal::Output`].
+/// # Errors
+///
+/// The lowest first: [`Refusal::Mode`], [`Refusal::PceSprite`], [`Refusal::Field`], [`Refusal::Output`].
+///
+/// # Example
 ///
 /// ```
 /// use rumchivoat::{Entry, Mode, Refusal, pack_entry};
@@ -48,7 +52,11 @@ pub fn pack_entry(mode: impl Into<u32>, entry: Entry, out: &mut [u8]) -> Result<
 
 /// Reads an entry from the mode's one or two bytes. Unused bits are ignored.
 ///
-/// Refused, the lowest first: [`Refusal::Mode`], [`Refusal::PceSprite`], [`Refusal::Length`].
+/// # Errors
+///
+/// The lowest first: [`Refusal::Mode`], [`Refusal::PceSprite`], [`Refusal::Length`].
+///
+/// # Example
 ///
 /// ```
 /// use rumchivoat::{Entry, Mode, Refusal, unpack_entry};
@@ -65,7 +73,11 @@ pub fn unpack_entry(mode: impl Into<u32>, bytes: &[u8]) -> Result<Entry, Refusal
 /// Writes an entry's tile index alone, and answers its length: two bytes, low first, where the mode's tile bits exceed
 /// 8, else one. Gbc has one: its ninth bit is an attribute. The whole entry is checked.
 ///
-/// Refused, the lowest first: [`Refusal::Mode`], [`Refusal::PceSprite`], [`Refusal::Field`], [`Refusal::Output`].
+/// # Errors
+///
+/// The lowest first: [`Refusal::Mode`], [`Refusal::PceSprite`], [`Refusal::Field`], [`Refusal::Output`].
+///
+/// # Example
 ///
 /// ```
 /// use rumchivoat::{Entry, Mode, tile_index};
@@ -83,7 +95,11 @@ pub fn tile_index(mode: impl Into<u32>, entry: Entry, out: &mut [u8]) -> Result<
 /// The bits of an entry that are not its tile index, where they stand in the entry's other byte; 0 in a mode whose
 /// entries have one byte. Gbc keeps tile bit 8. The whole entry is checked.
 ///
-/// Refused, the lowest first: [`Refusal::Mode`], [`Refusal::PceSprite`], [`Refusal::Field`].
+/// # Errors
+///
+/// The lowest first: [`Refusal::Mode`], [`Refusal::PceSprite`], [`Refusal::Field`].
+///
+/// # Example
 ///
 /// ```
 /// use rumchivoat::{Entry, Mode, attribute};
@@ -95,4 +111,122 @@ pub fn tile_index(mode: impl Into<u32>, entry: Entry, out: &mut [u8]) -> Result<
 /// ```
 pub fn attribute(mode: impl Into<u32>, entry: Entry) -> Result<u8, Refusal> {
     raw::attribute(mode.into(), entry).byte()
+}
+
+impl Entry {
+    /// Packs the entry as [`pack_entry`] does, and says why where it is refused.
+    ///
+    /// # Errors
+    ///
+    /// The lowest first: [`Refusal::Mode`], [`Refusal::PceSprite`], [`Refusal::Field`], [`Refusal::Output`], with their
+    /// causes.
+    ///
+    /// # Example
+    ///
+    /// ```
+    /// use rumchivoat::{Entry, Mode, Refused};
+    ///
+    /// let entry = Entry { tile: 513, palette: 5, flip_h: true, priority: true, ..Entry::default() };
+    /// let mut out = [0; 2];
+    /// assert_eq!((entry.pack(Mode::Snes, &mut out)?, out), (2, [0x01, 0x76]));
+    /// let refused = entry.pack(Mode::Snes, &mut out[..1]).unwrap_err();
+    /// assert_eq!(refused.to_string(), "refused 11: the output needs 2 bytes and has 1");
+    /// let refused = entry.pack(Mode::Gg, &mut out).unwrap_err();
+    /// assert_eq!(refused.to_string(), "refused 10: tile index 513 does not fit gg's 9 bits");
+    /// # Ok::<(), Refused>(())
+    /// ```
+    pub fn pack(self, mode: impl Into<u32>, out: &mut [u8]) -> Result<usize, Refused> {
+        let mode = mode.into();
+        let space = out.len();
+        pack_entry(mode, self, out).map_err(|refusal| Refused::new(refusal, self.why_not_packed(refusal, mode, space)))
+    }
+
+    /// Packs the entry as [`pack_entry`] does, into a `Vec` of the mode's one or two bytes.
+    ///
+    /// # Errors
+    ///
+    /// The lowest first: [`Refusal::Mode`], [`Refusal::PceSprite`], [`Refusal::Field`], with their causes.
+    ///
+    /// # Example
+    ///
+    /// ```
+    /// use rumchivoat::{Entry, Mode, Refused};
+    ///
+    /// let entry = Entry { tile: 4095, palette: 15, ..Entry::default() };
+    /// assert_eq!(entry.pack_to_vec(Mode::Pce)?, [0xff, 0xff]);
+    /// let flipped = Entry { flip_h: true, ..entry };
+    /// assert_eq!(flipped.pack_to_vec(Mode::Pce).unwrap_err().to_string(), "refused 10: pce has no flips");
+    /// # Ok::<(), Refused>(())
+    /// ```
+    pub fn pack_to_vec(self, mode: impl Into<u32>) -> Result<Vec<u8>, Refused> {
+        let mut out = [0; MOST_BYTES];
+        let written = self.pack(mode, &mut out)?;
+        Ok(out.into_iter().take(written).collect())
+    }
+
+    /// Reads an entry as [`unpack_entry`] does, and says why where it is refused.
+    ///
+    /// # Errors
+    ///
+    /// The lowest first: [`Refusal::Mode`], [`Refusal::PceSprite`], [`Refusal::Length`], with their causes.
+    ///
+    /// # Example
+    ///
+    /// ```
+    /// use rumchivoat::{Entry, Mode, Refused};
+    ///
+    /// assert_eq!(Entry::unpack(Mode::Gb, &[7])?, Entry { tile: 7, ..Entry::default() });
+    /// let refused = Entry::unpack(Mode::Snes, &[7]).unwrap_err();
+    /// assert_eq!(refused.to_string(), "refused 7: 2 bytes are needed, 1 was given");
+    /// # Ok::<(), Refused>(())
+    /// ```
+    pub fn unpack(mode: impl Into<u32>, bytes: &[u8]) -> Result<Entry, Refused> {
+        let mode = mode.into();
+        unpack_entry(mode, bytes).map_err(|refusal| Refused::new(refusal, why_not_read(refusal, mode, bytes.len())))
+    }
+
+    fn why_not_packed(self, refusal: Refusal, number: u32, space: usize) -> Cause {
+        let needed = |mode: Mode| mode.entry_bytes().unwrap_or(0);
+        match refusal {
+            Refusal::Mode => Cause::Mode { number },
+            Refusal::Field => Cause::in_mode(number, |mode| self.misfit(mode)),
+            Refusal::Output => {
+                Cause::in_mode(number, |mode| Cause::Output { what: "output", needed: needed(mode), space })
+            }
+            _ => Cause::Plain,
+        }
+    }
+
+    /// The first field that the mode's entries do not hold.
+    fn misfit(self, mode: Mode) -> Cause {
+        let Entry { tile, palette, flip_h, flip_v, priority } = self;
+        if !fits(tile, mode.tile_bits()) {
+            Cause::Tile { mode, tile }
+        } else if !fits(palette, mode.palette_bits()) {
+            Cause::Palette { mode, palette }
+        } else if (flip_h || flip_v) && !mode.has_flips() {
+            Cause::Flips { mode }
+        } else if priority && !mode.has_priority() {
+            Cause::Priority { mode }
+        } else {
+            Cause::Plain
+        }
+    }
+}
+
+/// The most bytes of an entry.
+const MOST_BYTES: usize = 2;
+
+/// Whether so many bits hold the number; no bits where the mode has no entries.
+pub(crate) fn fits(number: u32, bits: Option<u32>) -> bool {
+    u64::from(number) >> bits.unwrap_or(0) == 0
+}
+
+fn why_not_read(refusal: Refusal, number: u32, given: usize) -> Cause {
+    let needed = |mode: Mode| mode.entry_bytes().unwrap_or(0);
+    match refusal {
+        Refusal::Mode => Cause::Mode { number },
+        Refusal::Length => Cause::in_mode(number, |mode| Cause::Length { what: "byte", needed: needed(mode), given }),
+        _ => Cause::Plain,
+    }
 }

@@ -4,6 +4,28 @@
 //! 01 says: refused or done, with one content of the lent bytes. A refused call leaves every lent byte as it was; a call
 //! that is done leaves the bytes after the written length as they were.
 //!
+//! ```
+//! use rumchivoat::{MapSize, Mode, Settings};
+//!
+//! # fn main() -> Result<(), Box<dyn std::error::Error>> {
+//! // once, when the station starts
+//! rumchivoat::check_interface()?;
+//!
+//! // a picture of two tiles, 16x8 pixels, a byte each
+//! let settings = Settings::new(Mode::Snes, 4, MapSize { columns: 2, rows: 1 }).flips().discarding();
+//! let converted = settings.convert_to_vec(&[7; 128])?;
+//! assert_eq!((converted.tiles.len(), converted.map), (32, vec![0, 0, 0, 0]));
+//! # Ok(())
+//! # }
+//! ```
+//!
+//! # Two layers
+//!
+//! The plain calls ([`convert`], [`pack_colors`], [`Set::add`] ..) take numbers and lent slices, as the archive does, and
+//! answer a [`Refusal`]: they cost what the archive's calls cost. The typed layer ([`Settings`], [`TileSet`], [`Entry`],
+//! the calls that end in `_to_vec`) is thin over them. It names what is easily swapped, ties a set to its store, and
+//! answers [`Refused`], whose words tell the values: `refused 10: tile index 4096 does not fit pce's 12 bits`.
+//!
 //! A mode is given as a [`Mode`] or by its number, so that a number read from elsewhere needs no check of its own: a
 //! number above 15 is answered with [`Refusal::Mode`].
 //!
@@ -15,22 +37,73 @@
 //! assert_eq!(bytes, [0x1f, 0x40]);
 //! assert_eq!(pack_colors(16u32, &[31, 0, 16, 255], &mut bytes), Err(Refusal::Mode));
 //! ```
+//!
+//! # The archive's interface
+//!
+//! Crate and archive are built from one checkout. The archive gives the number of its interface, and the crate is written
+//! for [`INTERFACE`]. An archive from before there was a number is refused when the crate is built. Another number is
+//! told by [`check_interface`], which a station calls once when it starts; no other call looks at it, so that none pays
+//! for it. A refusal that the crate does not know is [`Refusal::Unknown`]: no answer makes the crate panic.
+//!
+//! # Threads and stack
+//!
+//! A call works on what it is lent and on its own stack: it keeps nothing between calls, waits for nothing and allocates
+//! nothing (the calls that give a `Vec` allocate it). So calls may run in any number of threads at once, and every type
+//! here is `Send` and `Sync`. [`stack`] says how much stack the calls take: two of them take more than a small thread
+//! has.
+
+#![cfg_attr(
+    not(test),
+    warn(
+        clippy::expect_used,
+        clippy::indexing_slicing,
+        clippy::missing_errors_doc,
+        clippy::panic,
+        clippy::todo,
+        clippy::unreachable,
+        clippy::unwrap_used
+    )
+)]
 
 mod color;
 mod entry;
+mod interface;
 mod mode;
 mod picture;
 mod raw;
 mod refusal;
+mod refused;
 mod set;
 mod sheet;
+pub mod stack;
 mod tile;
+mod tile_set;
 
-pub use color::{Rounding, pack_colors, reduce_channel, scale_up, unpack_colors};
+pub use color::{
+    Rounding, pack_colors, pack_colors_to_vec, reduce_channel, scale_up, unpack_colors, unpack_colors_to_vec,
+};
 pub use entry::{Entry, attribute, pack_entry, tile_index, unpack_entry};
-pub use mode::Mode;
-pub use picture::{Picture, Settings, convert, redraw};
+pub use interface::{INTERFACE, InterfaceMismatch, check_interface};
+pub use mode::{Mode, UnknownMode};
+pub use picture::{Converted, MapSize, Picture, Settings, convert, redraw};
 pub use refusal::Refusal;
+pub use refused::{Cause, Refused};
 pub use set::{Logical, Native, Place, Set, logical_number, native_number};
-pub use sheet::{LONGEST_TEXT, Ran, run};
-pub use tile::{pack_tile, unpack_tile};
+pub use sheet::{LONGEST_TEXT, Ran, Text, run, run_to_vec};
+pub use tile::{TileSize, pack_tile, pack_tile_to_vec, unpack_tile, unpack_tile_to_vec};
+pub use tile_set::{SetSettings, TileSet};
+
+#[cfg(test)]
+mod tests {
+    use super::*;
+
+    fn is_shared_by_threads<T: Send + Sync>() {}
+
+    #[test]
+    fn every_type_is_shared_by_threads() {
+        is_shared_by_threads::<(Mode, UnknownMode, Refusal, Refused, Cause, InterfaceMismatch)>();
+        is_shared_by_threads::<(Rounding, Entry, TileSize, MapSize, Settings, Picture, Converted)>();
+        is_shared_by_threads::<(Set, SetSettings, Place, Native, Logical, Ran, Text)>();
+        is_shared_by_threads::<(TileSet<Vec<u8>>, TileSet<&mut [u8]>)>();
+    }
+}

@@ -4,43 +4,61 @@ use std::error::Error;
 use std::fmt;
 
 /// Why a call was refused. Where several apply, the lowest number is given.
+///
+/// A refusal is a number alone. The typed calls answer [`Refused`](crate::Refused), which has the values as well.
+///
+/// ```
+/// use rumchivoat::Refusal;
+///
+/// assert_eq!(Refusal::Component.number(), 9);
+/// assert_eq!(Refusal::Component.to_string(), "refused 9: a colour component is above the mode's top");
+/// assert_eq!(Refusal::try_from(9), Ok(Refusal::Component));
+/// assert!(Refusal::Mode < Refusal::Component);
+/// ```
 #[derive(Debug, Clone, Copy, PartialEq, Eq, PartialOrd, Ord, Hash)]
-#[repr(u32)]
+#[non_exhaustive]
 pub enum Refusal {
     /// 1: mode number above 15.
-    Mode = 1,
+    Mode,
     /// 2: an entry, picture, redraw or cell number in pce_sprite; reading a pce_sprite set.
-    PceSprite = 2,
+    PceSprite,
     /// 3: depth not in the mode's row.
-    Depth = 3,
+    Depth,
     /// 4: tile size not allowed, columns or rows outside 1..64, or a tile number above 65,535.
-    Size = 4,
+    Size,
     /// 5: picture with flips on in a mode without flips.
-    Flips = 5,
+    Flips,
     /// 6: set state counts more tiles than its room.
-    Count = 6,
+    Count,
     /// 7: input length not the one required; in redrawing also tile bytes that end before a tile the map names.
-    Length = 7,
+    Length,
     /// 8: a pixel of 2^depth or more, in tile packing or set writing.
-    Pixel = 8,
+    Pixel,
     /// 9: a component r, g or b above the top, gray modes included.
-    Component = 9,
+    Component,
     /// 10: an entry field its bits cannot hold, a flip or priority where there is none, or a picture's palette index too
     /// large.
-    Field = 10,
+    Field,
     /// 11: output buffer shorter than the bytes to be written.
-    Output = 11,
+    Output,
     /// 12: no room for the tiles.
-    Room = 12,
+    Room,
     /// 13: discarding on, discard counter 4,294,967,295, and an added tile matches.
-    Discarded = 13,
+    Discarded,
     /// 14: settings lines not as document 01 has them.
-    Settings = 14,
+    Settings,
+    /// An answer that this crate does not know, which an archive of another interface may give. Only the crate makes
+    /// one; [`check_interface`](crate::check_interface) tells such an archive before the first call.
+    #[non_exhaustive]
+    Unknown {
+        /// The refusal's number; 0 where the call was done and its value is none that it can have.
+        number: u32,
+    },
 }
 
 impl Refusal {
-    /// Every refusal, from 1 to 14.
-    pub const ALL: [Refusal; 14] = [
+    /// Every refusal of document 01, from 1 to 14.
+    pub const ALL: &'static [Refusal] = &[
         Refusal::Mode,
         Refusal::PceSprite,
         Refusal::Depth,
@@ -57,47 +75,62 @@ impl Refusal {
         Refusal::Settings,
     ];
 
-    /// Document 01's number.
-    ///
-    /// ```
-    /// assert_eq!(rumchivoat::Refusal::Component.number(), 9);
-    /// ```
+    /// Document 01's number; the archive's own where this crate does not know it.
     pub const fn number(self) -> u32 {
-        self as u32
+        match self {
+            Refusal::Mode => 1,
+            Refusal::PceSprite => 2,
+            Refusal::Depth => 3,
+            Refusal::Size => 4,
+            Refusal::Flips => 5,
+            Refusal::Count => 6,
+            Refusal::Length => 7,
+            Refusal::Pixel => 8,
+            Refusal::Component => 9,
+            Refusal::Field => 10,
+            Refusal::Output => 11,
+            Refusal::Room => 12,
+            Refusal::Discarded => 13,
+            Refusal::Settings => 14,
+            Refusal::Unknown { number } => number,
+        }
     }
 
-    /// Document 01's words.
-    const fn words(self) -> &'static str {
+    /// The refusal of any number that the archive gives.
+    pub(crate) fn of(number: u32) -> Refusal {
+        Refusal::try_from(number).unwrap_or(Refusal::Unknown { number })
+    }
+
+    /// What it means, for a reader who has no paper at hand.
+    pub(crate) const fn words(self) -> &'static str {
         match self {
-            Refusal::Mode => "mode number above 15",
-            Refusal::PceSprite => "an entry, picture, redraw or cell number in pce_sprite; reading a pce_sprite set",
-            Refusal::Depth => "depth not in the mode's row",
-            Refusal::Size => "tile size not allowed, columns or rows outside 1..64, or a tile number above 65,535",
-            Refusal::Flips => "picture with flips on in a mode without flips",
-            Refusal::Count => "set state counts more tiles than its room",
-            Refusal::Length => {
-                "input length not the one required; in redrawing also tile bytes that end before a tile the map names"
+            Refusal::Mode => "the mode number is above 15",
+            Refusal::PceSprite => "pce_sprite has no map entries, no pictures and no cell numbers, and its sets are not read",
+            Refusal::Depth => "the mode does not have this depth",
+            Refusal::Size => {
+                "the mode has no tiles of this size, columns or rows are not 1 to 64, or a tile number is above 65,535"
             }
-            Refusal::Pixel => "a pixel of 2^depth or more, in tile packing or set writing",
-            Refusal::Component => "a component r, g or b above the top, gray modes included",
-            Refusal::Field => {
-                "an entry field its bits cannot hold, a flip or priority where there is none, or a picture's palette \
-                 index too large"
-            }
-            Refusal::Output => "output buffer shorter than the bytes to be written",
-            Refusal::Room => "no room for the tiles",
-            Refusal::Discarded => "discarding on, discard counter 4,294,967,295, and an added tile matches",
-            Refusal::Settings => "settings lines not as below",
+            Refusal::Flips => "flips are on, and the mode has none",
+            Refusal::Count => "the set counts more tiles than it has room for",
+            Refusal::Length => "the input is not as long as it must be, or the map names a tile that is not there",
+            Refusal::Pixel => "a pixel does not fit the depth",
+            Refusal::Component => "a colour component is above the mode's top",
+            Refusal::Field => "the tile index, palette index, flip or priority does not fit the mode's map entry",
+            Refusal::Output => "the output is shorter than the bytes to be written",
+            Refusal::Room => "there is no room for the tiles",
+            Refusal::Discarded => "the tile is to be discarded, and the count of discarded tiles is at its end",
+            Refusal::Settings => "the sheet is not eight lines of settings and exactly the picture's pixels",
+            Refusal::Unknown { .. } => "the archive answers what this crate does not know: build both from one checkout",
         }
     }
 }
 
 impl TryFrom<u32> for Refusal {
-    /// The number, where it is no refusal.
+    /// The number, where it is none of document 01's.
     type Error = u32;
 
     fn try_from(number: u32) -> Result<Self, u32> {
-        Refusal::ALL.into_iter().find(|refusal| refusal.number() == number).ok_or(number)
+        Refusal::ALL.iter().copied().find(|refusal| refusal.number() == number).ok_or(number)
     }
 }
 
@@ -108,3 +141,28 @@ impl fmt::Display for Refusal {
 }
 
 impl Error for Refusal {}
+
+#[cfg(test)]
+mod tests {
+    use super::*;
+
+    #[test]
+    fn a_number_that_is_not_known_is_kept() {
+        for number in [0, 15, 16, 255, u32::MAX] {
+            let refusal = Refusal::of(number);
+            assert_eq!(refusal, Refusal::Unknown { number });
+            assert_eq!(refusal.number(), number);
+            let words = "the archive answers what this crate does not know: build both from one checkout";
+            assert_eq!(refusal.to_string(), format!("refused {number}: {words}"));
+        }
+    }
+
+    #[test]
+    fn refusals_are_in_the_order_of_their_numbers() {
+        let numbers = (1..=16).chain([255, u32::MAX - 1, u32::MAX]).collect::<Vec<u32>>();
+        let refusals: Vec<Refusal> = numbers.iter().map(|&number| Refusal::of(number)).collect();
+        assert!(refusals.is_sorted());
+        assert_eq!(refusals.iter().map(|refusal| refusal.number()).collect::<Vec<u32>>(), numbers);
+        assert_eq!(refusals[..14], *Refusal::ALL);
+    }
+}

@@ -1,20 +1,21 @@
 //! Tile sets, and the two kinds of tile number.
 
-use crate::{Refusal, raw};
+use crate::{Cause, Mode, Refusal, Refused, SetSettings, TileSize, raw};
 
 /// A set's settings and state. Its tiles live in a store that is lent to each call, a byte for each pixel, tile after
-/// tile, each row by row.
+/// tile, each row by row. A [`TileSet`](crate::TileSet) keeps both together: a plain set can be lent another set's store.
 ///
 /// The fields are plain numbers, kept by the caller between calls. Every call checks them: what is no set is answered
 /// with [`Refusal::Mode`], [`Refusal::Depth`] or [`Refusal::Size`], and a set that counts more tiles than its room with
 /// [`Refusal::Count`]. Room is the least of 65,535, the store's whole tiles, and the limit if it is not 0.
 ///
 /// ```
-/// use rumchivoat::{Logical, Mode, Place, Refusal, Set};
+/// use rumchivoat::{Logical, Mode, Place, Refusal, Set, SetSettings, TileSize};
 ///
 /// // room for two tiles of 8x8; flips and discarding on, no limit
 /// let mut store = [0; 128];
-/// let mut set = Set::new(Mode::Snes, 2, 8, 8, true, true, 0)?;
+/// let settings = SetSettings::new(Mode::Snes, 2, TileSize::CELL).flips().discarding();
+/// let mut set = Set::with_settings(settings)?;
 ///
 /// let mut tile = [0; 64];
 /// tile[0] = 1;
@@ -74,11 +75,39 @@ pub struct Native(pub u32);
 #[derive(Debug, Clone, Copy, PartialEq, Eq, PartialOrd, Ord, Hash, Default)]
 pub struct Logical(pub u32);
 
+/// The most tiles of any set.
+pub(crate) const MOST_TILES: usize = 65_535;
+
 impl Set {
-    /// A set of no tiles. Snes has widths and heights of 8, 16, 32 and 64; pce_sprite its six sizes; the others width 8
+    /// A set of no tiles, by these settings.
+    ///
+    /// # Errors
+    ///
+    /// The lowest first: [`Refusal::Mode`], [`Refusal::Depth`], [`Refusal::Size`].
+    ///
+    /// # Example
+    ///
+    /// ```
+    /// use rumchivoat::{Mode, Refusal, Set, SetSettings, TileSize};
+    ///
+    /// let settings = SetSettings::new(Mode::Md, 4, TileSize { width: 8, height: 32 }).flips().discarding();
+    /// let set = Set::with_settings(settings)?;
+    /// assert_eq!((set.stored, set.discarded), (0, 0));
+    /// # Ok::<(), Refusal>(())
+    /// ```
+    pub fn with_settings(settings: SetSettings) -> Result<Set, Refusal> {
+        let SetSettings { mode, depth, size, flips, discarding, limit } = settings;
+        Set::new(mode, depth, size.width, size.height, flips, discarding, limit)
+    }
+
+    /// A set of no tiles, by plain numbers; [`with_settings`](Set::with_settings) names them. Snes has widths and heights of 8, 16, 32 and 64; pce_sprite its six sizes; the others width 8
     /// and those heights. Flips may be on in any mode.
     ///
-    /// Refused, the lowest first: [`Refusal::Mode`], [`Refusal::Depth`], [`Refusal::Size`].
+    /// # Errors
+    ///
+    /// The lowest first: [`Refusal::Mode`], [`Refusal::Depth`], [`Refusal::Size`].
+    ///
+    /// # Example
     ///
     /// ```
     /// use rumchivoat::{Mode, Refusal, Set};
@@ -98,12 +127,16 @@ impl Set {
         discarding: bool,
         limit: u32,
     ) -> Result<Set, Refusal> {
-        raw::set_new(mode.into(), depth, width, height, flips, discarding, limit).set(Set::default())
+        raw::set_new(mode.into(), depth, width, height, flips, discarding, limit).set()
     }
 
     /// Sets both counts to 0. A refused set stays as it is.
     ///
-    /// Refused, the lowest first: [`Refusal::Mode`], [`Refusal::Depth`], [`Refusal::Size`].
+    /// # Errors
+    ///
+    /// The lowest first: [`Refusal::Mode`], [`Refusal::Depth`], [`Refusal::Size`].
+    ///
+    /// # Example
     ///
     /// ```
     /// use rumchivoat::{Mode, Refusal, Set};
@@ -116,14 +149,18 @@ impl Set {
     /// # Ok::<(), Refusal>(())
     /// ```
     pub fn reset(&mut self) -> Result<(), Refusal> {
-        *self = raw::set_reset(*self).set(*self)?;
+        *self = raw::set_reset(*self).set()?;
         Ok(())
     }
 
     /// Looks a tile's pixels up, each cut to its low depth bits: where the set has the tile, or nothing.
     ///
-    /// Refused, the lowest first: [`Refusal::Mode`], [`Refusal::Depth`], [`Refusal::Size`], [`Refusal::Count`],
+    /// # Errors
+    ///
+    /// The lowest first: [`Refusal::Mode`], [`Refusal::Depth`], [`Refusal::Size`], [`Refusal::Count`],
     /// [`Refusal::Length`].
+    ///
+    /// # Example
     ///
     /// ```
     /// use rumchivoat::{Logical, Mode, Place, Refusal, Set};
@@ -151,8 +188,12 @@ impl Set {
     /// Adds a tile's pixels, each cut to its low depth bits. With discarding on, a tile that the set has is counted in
     /// `discarded`; any other goes at the end of the stored ones. A refused set and its store stay as they are.
     ///
-    /// Refused, the lowest first: [`Refusal::Mode`], [`Refusal::Depth`], [`Refusal::Size`], [`Refusal::Count`],
+    /// # Errors
+    ///
+    /// The lowest first: [`Refusal::Mode`], [`Refusal::Depth`], [`Refusal::Size`], [`Refusal::Count`],
     /// [`Refusal::Length`], [`Refusal::Room`], [`Refusal::Discarded`].
+    ///
+    /// # Example
     ///
     /// ```
     /// use rumchivoat::{Mode, Refusal, Set};
@@ -168,15 +209,19 @@ impl Set {
     /// # Ok::<(), Refusal>(())
     /// ```
     pub fn add(&mut self, store: &mut [u8], pixels: &[u8]) -> Result<(), Refusal> {
-        *self = raw::set_add(*self, store, pixels).set(*self)?;
+        *self = raw::set_add(*self, store, pixels).set()?;
         Ok(())
     }
 
     /// Writes the set's tiles as the mode's bytes, and answers their length. Tiles that are larger than 8x8 are written
     /// cell by cell, the last row of cells filled up with blank ones; pce_sprite's tile by tile.
     ///
-    /// Refused, the lowest first: [`Refusal::Mode`], [`Refusal::Depth`], [`Refusal::Size`], [`Refusal::Count`],
+    /// # Errors
+    ///
+    /// The lowest first: [`Refusal::Mode`], [`Refusal::Depth`], [`Refusal::Size`], [`Refusal::Count`],
     /// [`Refusal::Pixel`], [`Refusal::Output`].
+    ///
+    /// # Example
     ///
     /// ```
     /// use rumchivoat::{Mode, Refusal, Set};
@@ -197,11 +242,16 @@ impl Set {
     }
 
     /// Reads a set from the mode's bytes into the store: whole cells, up to the first tile that is not complete. The
-    /// set has no limit and discards; equal tiles are all kept.
+    /// set has no limit and discards; equal tiles are all kept. [`TileSet::read`](crate::TileSet::read) takes the size
+    /// as one.
     ///
-    /// Refused, the lowest first: [`Refusal::Mode`], [`Refusal::PceSprite`], [`Refusal::Depth`], [`Refusal::Size`],
+    /// # Errors
+    ///
+    /// The lowest first: [`Refusal::Mode`], [`Refusal::PceSprite`], [`Refusal::Depth`], [`Refusal::Size`],
     /// [`Refusal::Length`], [`Refusal::Output`] where the store is too short, [`Refusal::Room`] for more than 65,535
     /// tiles.
+    ///
+    /// # Example
     ///
     /// ```
     /// use rumchivoat::{Mode, Refusal, Set};
@@ -223,14 +273,84 @@ impl Set {
         bytes: &[u8],
         store: &mut [u8],
     ) -> Result<Set, Refusal> {
-        raw::set_read(mode.into(), depth, width, height, flips, bytes, store).set(Set::default())
+        raw::set_read(mode.into(), depth, width, height, flips, bytes, store).set()
     }
+
+    /// The length of the bytes that [`write`](Set::write) writes.
+    ///
+    /// # Errors
+    ///
+    /// What the set is refused with, whatever its store, the lowest first: [`Refusal::Mode`], [`Refusal::Depth`],
+    /// [`Refusal::Size`], [`Refusal::Count`], with their causes.
+    ///
+    /// # Example
+    ///
+    /// ```
+    /// use rumchivoat::{Mode, Refused, Set, SetSettings, TileSize};
+    ///
+    /// let settings = SetSettings::new(Mode::Snes, 2, TileSize { width: 16, height: 16 });
+    /// let mut set = Set::with_settings(settings)?;
+    /// // (l) nine tiles of 16x16: two rows of eight, 64 cells
+    /// set.stored = 9;
+    /// assert_eq!(set.write_len()?, 64 * 16);
+    /// # Ok::<(), Refused>(())
+    /// ```
+    pub fn write_len(&self) -> Result<usize, Refused> {
+        let refused = |refusal| Refused::new(refusal, self.why_refused(refusal, usize::MAX));
+        // the archive's own check of mode, depth and size
+        raw::set_reset(*self).set().map_err(refused)?;
+        if self.stored as usize > self.room(usize::MAX) {
+            return Err(refused(Refusal::Count));
+        }
+        let cells = self.cells();
+        Ok(cells.checked_mul(self.depth as usize * 8).unwrap_or(usize::MAX))
+    }
+
+    /// The size of the set's tiles.
+    pub fn size(&self) -> TileSize {
+        TileSize { width: self.width, height: self.height }
+    }
+
+    /// Room over a store of this length, of a set that is not refused.
+    pub(crate) fn room(&self, store: usize) -> usize {
+        let limit = if self.limit == 0 { MOST_TILES } else { self.limit as usize };
+        limit.min(MOST_TILES).min(store / self.size().pixels().max(1))
+    }
+
+    /// The cells of the set's bytes. But for 8x8 and pce_sprite they fill whole rows, R = 16 of snes and 1 of others.
+    fn cells(&self) -> usize {
+        let (across, down) = (self.width as usize / 8, self.height as usize / 8);
+        let stored = self.stored as usize;
+        if self.mode == Mode::PceSprite.number() || self.size() == TileSize::CELL {
+            return stored * across * down;
+        }
+        let row = row_cells(self.mode);
+        stored.div_ceil((row / across).max(1)) * down * row
+    }
+
+    /// What the refusals of a set over a store of this length are about.
+    pub(crate) fn why_refused(&self, refusal: Refusal, store: usize) -> Cause {
+        match refusal {
+            Refusal::Count => Cause::Count { stored: self.stored, room: self.room(store) },
+            Refusal::Room => Cause::Room { room: self.room(store) },
+            _ => Cause::of_tiles(refusal, self.mode, self.depth, self.size()),
+        }
+    }
+}
+
+/// R, the cells of a row of a set's bytes.
+pub(crate) fn row_cells(mode: u32) -> usize {
+    if mode == Mode::Snes.number() { 16 } else { 1 }
 }
 
 /// The cell at which a tile of the set's bytes starts. At 8x8 the two numbers agree.
 ///
-/// Refused, the lowest first: [`Refusal::Mode`], [`Refusal::PceSprite`], [`Refusal::Size`], the last also for a tile
+/// # Errors
+///
+/// The lowest first: [`Refusal::Mode`], [`Refusal::PceSprite`], [`Refusal::Size`], the last also for a tile
 /// number above 65,535.
+///
+/// # Example
 ///
 /// ```
 /// use rumchivoat::{Logical, Mode, Native, Refusal, native_number};
@@ -245,8 +365,12 @@ pub fn native_number(mode: impl Into<u32>, width: u32, height: u32, tile: Logica
 
 /// The tile that a cell of the set's bytes belongs to.
 ///
-/// Refused, the lowest first: [`Refusal::Mode`], [`Refusal::PceSprite`], [`Refusal::Size`], the last also where the tile
+/// # Errors
+///
+/// The lowest first: [`Refusal::Mode`], [`Refusal::PceSprite`], [`Refusal::Size`], the last also where the tile
 /// number would be above 65,535.
+///
+/// # Example
 ///
 /// ```
 /// use rumchivoat::{Logical, Mode, Native, Refusal, logical_number};

@@ -2,9 +2,8 @@
 
 use crate::{Refusal, raw};
 
-/// The length of the longest text that [`run`] writes: a snes picture of 1,024 tiles at depth 8. A buffer of this size
-/// holds every text.
-pub const LONGEST_TEXT: usize = 67_691;
+/// A length that no text of [`run`] exceeds, as proved: a buffer of this size holds every text.
+pub const LONGEST_TEXT: usize = 67_840;
 
 /// A text that was written: how long it is, and whether it is a report or tells a refusal.
 #[derive(Debug, Clone, Copy, PartialEq, Eq, Hash)]
@@ -24,13 +23,18 @@ pub struct Ran {
 /// bytes and the map bytes; or it is `refused=N` and a newline. N is 14 where the input is not such a sheet, else what
 /// [`convert`] refuses the picture with, given 65,536 bytes for tiles.
 ///
-/// A text that tells a refusal is written like any other, so it comes as `Ok`. The call itself is refused in one case
-/// only, with [`Refusal::Output`]: where the text does not fit `out`. [`LONGEST_TEXT`] bytes hold every text. No text
-/// tells 11.
+/// A text that tells a refusal is written like any other, so it comes as `Ok`. No text tells 11.
 ///
-/// Tiles, map and what a conversion gathers are on the stack; 512 KiB suffice for the call.
+/// Tiles, map and what a conversion gathers are on the stack: [`stack::RUN`](crate::stack::RUN) bytes suffice for the
+/// call.
 ///
 /// [`convert`]: crate::convert
+///
+/// # Errors
+///
+/// [`Refusal::Output`], where the text does not fit `out`. [`LONGEST_TEXT`] bytes hold every text.
+///
+/// # Example
 ///
 /// ```
 /// use rumchivoat::{LONGEST_TEXT, Ran, Refusal, run};
@@ -67,4 +71,36 @@ pub struct Ran {
 /// ```
 pub fn run(input: &[u8], out: &mut [u8]) -> Result<Ran, Refusal> {
     raw::run(input, out).ran()
+}
+
+/// A text, and whether it is a report or tells a refusal.
+#[derive(Debug, Clone, PartialEq, Eq, Hash)]
+#[non_exhaustive]
+pub struct Text {
+    /// The whole text: a report followed by tile bytes and map bytes, or `refused=N` and a newline.
+    pub bytes: Vec<u8>,
+    /// The number N of a text `refused=N`; `None` where the text is a report.
+    pub told: Option<Refusal>,
+}
+
+/// Does what [`run`] does, and gives the text in a `Vec`. It takes [`stack::RUN`](crate::stack::RUN) bytes of stack.
+///
+/// # Errors
+///
+/// None of an archive of this crate's interface: every text fits.
+///
+/// # Example
+///
+/// ```
+/// use rumchivoat::{Refusal, run_to_vec};
+///
+/// let text = run_to_vec(b"no sheet")?;
+/// assert_eq!((text.bytes, text.told), (b"refused=14\n".to_vec(), Some(Refusal::Settings)));
+/// # Ok::<(), Refusal>(())
+/// ```
+pub fn run_to_vec(input: &[u8]) -> Result<Text, Refusal> {
+    let mut bytes = vec![0; LONGEST_TEXT];
+    let Ran { written, told } = run(input, &mut bytes)?;
+    bytes.truncate(written);
+    Ok(Text { bytes, told })
 }

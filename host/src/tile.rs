@@ -1,12 +1,50 @@
 //! Native tiles: 8x8 in every mode but pce_sprite, which has its six sizes.
 
-use crate::{Refusal, raw};
+use std::fmt;
+
+use crate::{Cause, Refusal, Refused, raw};
+
+/// The size of a tile, in pixels.
+///
+/// ```
+/// use rumchivoat::TileSize;
+///
+/// assert_eq!(TileSize { width: 16, height: 32 }.to_string(), "16x32");
+/// assert_eq!(TileSize::CELL, TileSize { width: 8, height: 8 });
+/// ```
+#[derive(Debug, Clone, Copy, PartialEq, Eq, Hash)]
+pub struct TileSize {
+    /// The pixels of a row.
+    pub width: u32,
+    /// The rows.
+    pub height: u32,
+}
+
+impl TileSize {
+    /// A cell, 8x8: the native tile of every mode but pce_sprite.
+    pub const CELL: TileSize = TileSize { width: 8, height: 8 };
+
+    /// The pixels of a tile. A size that no mode has may have more than can be counted.
+    pub(crate) const fn pixels(self) -> usize {
+        (self.width as usize).saturating_mul(self.height as usize)
+    }
+}
+
+impl fmt::Display for TileSize {
+    fn fmt(&self, f: &mut fmt::Formatter<'_>) -> fmt::Result {
+        write!(f, "{}x{}", self.width, self.height)
+    }
+}
 
 /// Packs a tile's pixels, a byte each, row by row, into the mode's bytes, and answers the length written: depth x 8 for
 /// 8x8. Pce_sprite packs widths 16 and 32 and heights 16, 32 and 64, each 128 bytes for each cell of 16x16.
 ///
-/// Refused, the lowest first: [`Refusal::Mode`], [`Refusal::Depth`], [`Refusal::Size`], [`Refusal::Length`],
+/// # Errors
+///
+/// The lowest first: [`Refusal::Mode`], [`Refusal::Depth`], [`Refusal::Size`], [`Refusal::Length`],
 /// [`Refusal::Pixel`], [`Refusal::Output`].
+///
+/// # Example
 ///
 /// ```
 /// use rumchivoat::{Mode, Refusal, pack_tile};
@@ -54,8 +92,12 @@ pub fn pack_tile(
 /// Unpacks a tile's bytes into pixels, a byte each, row by row, and answers their number. It inverts packing, at every
 /// depth.
 ///
-/// Refused, the lowest first: [`Refusal::Mode`], [`Refusal::Depth`], [`Refusal::Size`], [`Refusal::Length`],
+/// # Errors
+///
+/// The lowest first: [`Refusal::Mode`], [`Refusal::Depth`], [`Refusal::Size`], [`Refusal::Length`],
 /// [`Refusal::Output`].
+///
+/// # Example
 ///
 /// ```
 /// use rumchivoat::{Mode, Refusal, unpack_tile};
@@ -98,4 +140,79 @@ pub fn unpack_tile(
     out: &mut [u8],
 ) -> Result<usize, Refusal> {
     raw::unpack_tile(mode.into(), depth, width, height, bytes, out).length()
+}
+
+/// The most pixels of a native tile: pce_sprite's 32x64.
+const MOST_PIXELS: usize = 2048;
+
+/// The most bytes of a native tile: pce_sprite's 32x64 at depth 4.
+const MOST_BYTES: usize = 1024;
+
+/// Packs a tile as [`pack_tile`] does, into a `Vec` of exactly its bytes.
+///
+/// # Errors
+///
+/// The lowest first: [`Refusal::Mode`], [`Refusal::Depth`], [`Refusal::Size`], [`Refusal::Length`], [`Refusal::Pixel`],
+/// with their causes.
+///
+/// # Example
+///
+/// ```
+/// use rumchivoat::{Mode, Refused, TileSize, pack_tile_to_vec};
+///
+/// let mut pixels = [0; 64];
+/// pixels[..8].copy_from_slice(&[0, 1, 2, 3, 0, 1, 2, 3]);
+/// let bytes = pack_tile_to_vec(Mode::Snes, 2, TileSize::CELL, &pixels)?;
+/// assert_eq!((bytes.len(), bytes[0], bytes[1]), (16, 0x55, 0x33));
+///
+/// let refused = pack_tile_to_vec(Mode::Snes, 7, TileSize::CELL, &pixels).unwrap_err();
+/// assert_eq!(refused.to_string(), "refused 3: snes has depths 2, 4 and 8, not 7");
+/// pixels[9] = 4;
+/// let refused = pack_tile_to_vec(Mode::Snes, 2, TileSize::CELL, &pixels).unwrap_err();
+/// assert_eq!(refused.to_string(), "refused 8: pixel 9 is 4, and depth 2 holds 0 to 3");
+/// # Ok::<(), Refused>(())
+/// ```
+pub fn pack_tile_to_vec(mode: impl Into<u32>, depth: u32, size: TileSize, pixels: &[u8]) -> Result<Vec<u8>, Refused> {
+    let (mode, mut out) = (mode.into(), [0; MOST_BYTES]);
+    let written = pack_tile(mode, depth, size.width, size.height, pixels, &mut out).map_err(|refusal| {
+        let cause = match refusal {
+            Refusal::Length => Cause::Length { what: "pixel", needed: size.pixels(), given: pixels.len() },
+            Refusal::Pixel => Cause::of_pixels(depth, pixels),
+            _ => Cause::of_tiles(refusal, mode, depth, size),
+        };
+        Refused::new(refusal, cause)
+    })?;
+    Ok(out.into_iter().take(written).collect())
+}
+
+/// Unpacks a tile as [`unpack_tile`] does, into a `Vec` of its pixels.
+///
+/// # Errors
+///
+/// The lowest first: [`Refusal::Mode`], [`Refusal::Depth`], [`Refusal::Size`], [`Refusal::Length`], with their causes.
+///
+/// # Example
+///
+/// ```
+/// use rumchivoat::{Mode, Refused, TileSize, unpack_tile_to_vec};
+///
+/// let pixels = unpack_tile_to_vec(Mode::Gb, 1, TileSize::CELL, &[0x80; 8])?;
+/// assert_eq!((pixels.len(), pixels[0], pixels[1], pixels[8]), (64, 1, 0, 1));
+/// let refused = unpack_tile_to_vec(Mode::Gb, 2, TileSize::CELL, &[0x80; 8]).unwrap_err();
+/// assert_eq!(refused.to_string(), "refused 7: 16 bytes are needed, 8 were given");
+/// # Ok::<(), Refused>(())
+/// ```
+pub fn unpack_tile_to_vec(mode: impl Into<u32>, depth: u32, size: TileSize, bytes: &[u8]) -> Result<Vec<u8>, Refused> {
+    let (mode, mut out) = (mode.into(), [0; MOST_PIXELS]);
+    let written = unpack_tile(mode, depth, size.width, size.height, bytes, &mut out).map_err(|refusal| {
+        let cause = match refusal {
+            Refusal::Length => {
+                let needed = size.pixels().saturating_mul(depth as usize) / 8;
+                Cause::Length { what: "byte", needed, given: bytes.len() }
+            }
+            _ => Cause::of_tiles(refusal, mode, depth, size),
+        };
+        Refused::new(refusal, cause)
+    })?;
+    Ok(out.into_iter().take(written).collect())
 }

@@ -87,6 +87,7 @@ pub(crate) fn redraw(
 }
 
 impl Picture {
+    #[cfg(test)]
     fn is_bare_if_refused(&self) -> bool {
         let counts = self.tiles != 0 || self.discarded != 0;
         self.refusal == 0 || !(counts || self.tile_bytes != 0 || self.map_bytes != 0)
@@ -95,7 +96,6 @@ impl Picture {
     /// The counts and lengths.
     #[inline]
     pub(crate) fn picture(self) -> Result<crate::Picture, Refusal> {
-        debug_assert!(self.is_bare_if_refused());
         done(self.refusal)?;
         let Picture { tiles, discarded, tile_bytes, map_bytes, .. } = self;
         Ok(crate::Picture { tiles, discarded, tile_bytes, map_bytes })

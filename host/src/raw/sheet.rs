@@ -22,7 +22,6 @@ impl Written {
     /// The text of `run`, which is written also where it tells a refusal; no text is empty.
     #[inline]
     pub(crate) fn ran(self) -> Result<Ran, Refusal> {
-        debug_assert_eq!(self.does_not_fit(), self.written == 0);
         if self.does_not_fit() {
             return Err(Refusal::Output);
         }

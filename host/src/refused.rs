@@ -1,0 +1,291 @@
+//! A refusal with the values that led to it.
+
+use std::error::Error;
+use std::fmt;
+
+use crate::{MapSize, Mode, Refusal, TileSize};
+
+/// What the typed calls answer where they are refused: document 01's refusal, and its cause, told in a sentence that
+/// needs no paper at hand. The plain calls on slices answer the [`Refusal`] alone.
+///
+/// The cause is looked for only when a call was refused; a call that is done pays nothing for it.
+///
+/// ```
+/// use rumchivoat::{Cause, Entry, Mode, Refusal};
+///
+/// let entry = Entry { tile: 4096, ..Entry::default() };
+/// let refused = entry.pack(Mode::Pce, &mut [0; 2]).unwrap_err();
+/// assert_eq!(refused.refusal, Refusal::Field);
+/// assert_eq!(refused.cause, Cause::Tile { mode: Mode::Pce, tile: 4096 });
+/// assert_eq!(refused.to_string(), "refused 10: tile index 4096 does not fit pce's 12 bits");
+/// ```
+#[derive(Debug, Clone, Copy, PartialEq, Eq, Hash)]
+#[non_exhaustive]
+pub struct Refused {
+    /// The refusal.
+    pub refusal: Refusal,
+    /// What led to it.
+    pub cause: Cause,
+}
+
+/// What led to a refusal, with the values.
+#[derive(Debug, Clone, Copy, PartialEq, Eq, Hash)]
+#[non_exhaustive]
+pub enum Cause {
+    /// The refusal says all that is known.
+    Plain,
+    /// There is no such mode.
+    Mode {
+        /// The number given.
+        number: u32,
+    },
+    /// The mode does not have the depth.
+    Depth {
+        /// The mode.
+        mode: Mode,
+        /// The depth given.
+        depth: u32,
+    },
+    /// The mode has no tiles of the size.
+    TileSize {
+        /// The mode.
+        mode: Mode,
+        /// The size given.
+        size: TileSize,
+    },
+    /// Columns or rows are not 1 to 64.
+    MapSize {
+        /// The size given.
+        size: MapSize,
+    },
+    /// The mode has no flips.
+    Flips {
+        /// The mode.
+        mode: Mode,
+    },
+    /// The mode has no priority.
+    Priority {
+        /// The mode.
+        mode: Mode,
+    },
+    /// The mode's bits do not hold the tile index.
+    Tile {
+        /// The mode.
+        mode: Mode,
+        /// The tile index given.
+        tile: u32,
+    },
+    /// The mode's bits do not hold the palette index.
+    Palette {
+        /// The mode.
+        mode: Mode,
+        /// The palette index given.
+        palette: u32,
+    },
+    /// A pixel does not fit the depth.
+    Pixel {
+        /// The depth.
+        depth: u32,
+        /// The first such pixel.
+        value: u8,
+        /// Its place, from 0.
+        at: usize,
+    },
+    /// A component is above the mode's top.
+    Component {
+        /// The mode.
+        mode: Mode,
+        /// The first such component.
+        value: u8,
+        /// The place of its colour, from 0.
+        color: usize,
+    },
+    /// An input is not as long as it must be.
+    Length {
+        /// What is counted, in the singular.
+        what: &'static str,
+        /// How many are needed.
+        needed: usize,
+        /// How many were given.
+        given: usize,
+    },
+    /// An input is not made of whole parts.
+    Whole {
+        /// What is counted, in the singular.
+        what: &'static str,
+        /// How many a part has.
+        part: usize,
+        /// How many were given.
+        given: usize,
+    },
+    /// The map names a tile that the tile bytes do not hold.
+    Missing {
+        /// The first such tile.
+        tile: u32,
+        /// How many there are.
+        tiles: usize,
+    },
+    /// A lent buffer is too short.
+    Output {
+        /// Which.
+        what: &'static str,
+        /// The bytes to be written.
+        needed: usize,
+        /// The bytes that it has.
+        space: usize,
+    },
+    /// More tiles are to be stored than there is room for.
+    Room {
+        /// The tiles that there is room for.
+        room: usize,
+    },
+    /// The set counts more tiles than there is room for.
+    Count {
+        /// The tiles counted.
+        stored: u32,
+        /// The tiles that there is room for.
+        room: usize,
+    },
+}
+
+/// So many of a thing: `1 byte`, `2 bytes`.
+struct Counted(usize, &'static str);
+
+impl fmt::Display for Counted {
+    fn fmt(&self, f: &mut fmt::Formatter<'_>) -> fmt::Result {
+        let Counted(count, what) = self;
+        write!(f, "{count} {what}{}", if *count == 1 { "" } else { "s" })
+    }
+}
+
+/// The word for one, or the word for any other number.
+fn number_of<'a>(count: usize, one: &'a str, many: &'a str) -> &'a str {
+    if count == 1 { one } else { many }
+}
+
+/// The mode's depths as a sentence has them: `depth 4 alone`, `depths 2, 4 and 8`.
+struct Depths(Mode);
+
+impl fmt::Display for Depths {
+    fn fmt(&self, f: &mut fmt::Formatter<'_>) -> fmt::Result {
+        match self.0.depths() {
+            [one] => write!(f, "depth {one} alone"),
+            [first @ .., last] => {
+                let first = first.iter().map(u32::to_string).collect::<Vec<_>>().join(", ");
+                write!(f, "depths {first} and {last}")
+            }
+            [] => write!(f, "no depths"),
+        }
+    }
+}
+
+/// The palette index of a mode that has so many bits for it.
+fn write_palette(f: &mut fmt::Formatter<'_>, mode: Mode, palette: u32) -> fmt::Result {
+    match mode.palette_bits() {
+        None | Some(0) => write!(f, "{mode} has no palette index, and {palette} was given"),
+        Some(1) => write!(f, "palette index {palette} does not fit {mode}'s 1 bit"),
+        Some(bits) => write!(f, "palette index {palette} does not fit {mode}'s {bits} bits"),
+    }
+}
+
+impl Cause {
+    fn write(self, refusal: Refusal, f: &mut fmt::Formatter<'_>) -> fmt::Result {
+        match self {
+            Cause::Plain => f.write_str(refusal.words()),
+            Cause::Mode { number } => write!(f, "there is no mode {number}: the modes are 0 to 15"),
+            Cause::Depth { mode, depth } => write!(f, "{mode} has {}, not {depth}", Depths(mode)),
+            Cause::TileSize { mode, size } => write!(f, "{mode} has no tiles of {size}"),
+            Cause::MapSize { size } => write!(f, "columns and rows are 1 to 64 each, not {size}"),
+            Cause::Flips { mode } => write!(f, "{mode} has no flips"),
+            Cause::Priority { mode } => write!(f, "{mode} has no priority"),
+            Cause::Tile { mode, tile } => {
+                write!(f, "tile index {tile} does not fit {mode}'s {} bits", mode.tile_bits().unwrap_or(0))
+            }
+            Cause::Palette { mode, palette } => write_palette(f, mode, palette),
+            Cause::Pixel { depth, value, at } => {
+                write!(f, "pixel {at} is {value}, and depth {depth} holds 0 to {}", top_pixel(depth))
+            }
+            Cause::Component { mode, value, color } => {
+                write!(f, "colour {color} has a component of {value}, and {mode}'s top is {}", mode.top())
+            }
+            Cause::Length { what, needed, given } => {
+                let (are, were) = (number_of(needed, "is", "are"), number_of(given, "was", "were"));
+                write!(f, "{} {are} needed, {given} {were} given", Counted(needed, what))
+            }
+            Cause::Whole { what, part, given } => {
+                write!(f, "{} {} no multiple of {part}", Counted(given, what), number_of(given, "is", "are"))
+            }
+            Cause::Missing { tile, tiles } => {
+                write!(f, "the map names tile {tile}, and the tile bytes hold {}", Counted(tiles, "tile"))
+            }
+            Cause::Output { what, needed, space } => {
+                write!(f, "the {what} needs {} and has {space}", Counted(needed, "byte"))
+            }
+            Cause::Room { room } => write!(f, "there is room for {} and no more", Counted(room, "tile")),
+            Cause::Count { stored, room } => {
+                write!(f, "the set counts {stored} tiles, and there is room for {room}")
+            }
+        }
+    }
+
+    /// A cause that names the mode, which has this number.
+    pub(crate) fn in_mode(number: u32, cause: impl FnOnce(Mode) -> Cause) -> Cause {
+        Mode::try_from(number).map_or(Cause::Plain, cause)
+    }
+
+    /// What the refusals of a mode and a depth are about.
+    pub(crate) fn of_depth(refusal: Refusal, mode: u32, depth: u32) -> Cause {
+        match refusal {
+            Refusal::Mode => Cause::Mode { number: mode },
+            Refusal::Depth => Cause::in_mode(mode, |mode| Cause::Depth { mode, depth }),
+            _ => Cause::Plain,
+        }
+    }
+
+    /// What the refusals of a mode, a depth and a size of tiles are about.
+    pub(crate) fn of_tiles(refusal: Refusal, mode: u32, depth: u32, size: TileSize) -> Cause {
+        match refusal {
+            Refusal::Size => Cause::in_mode(mode, |mode| Cause::TileSize { mode, size }),
+            _ => Cause::of_depth(refusal, mode, depth),
+        }
+    }
+
+    /// The first pixel that does not fit the depth.
+    pub(crate) fn of_pixels(depth: u32, pixels: &[u8]) -> Cause {
+        let above = pixels.iter().enumerate().find(|&(_, &pixel)| u32::from(pixel) > top_pixel(depth));
+        above.map_or(Cause::Plain, |(at, &value)| Cause::Pixel { depth, value, at })
+    }
+}
+
+/// The largest pixel of a depth.
+fn top_pixel(depth: u32) -> u32 {
+    1u32.checked_shl(depth).map_or(u32::MAX, |pixels| pixels - 1)
+}
+
+impl Refused {
+    #[cold]
+    pub(crate) fn new(refusal: Refusal, cause: Cause) -> Refused {
+        Refused { refusal, cause }
+    }
+}
+
+impl fmt::Display for Refused {
+    fn fmt(&self, f: &mut fmt::Formatter<'_>) -> fmt::Result {
+        write!(f, "refused {}: ", self.refusal.number())?;
+        self.cause.write(self.refusal, f)
+    }
+}
+
+impl Error for Refused {}
+
+impl From<Refused> for Refusal {
+    fn from(refused: Refused) -> Refusal {
+        refused.refusal
+    }
+}
+
+impl From<Refusal> for Refused {
+    fn from(refusal: Refusal) -> Refused {
+        Refused::new(refusal, Cause::Plain)
+    }
+}

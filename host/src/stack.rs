@@ -1,0 +1,24 @@
+//! How much stack the calls take, in bytes: enough for the call and all that it calls, on x86-64 and aarch64.
+//!
+//! A thread needs this much below the caller, and what the caller and the start of a thread take. The pages are touched
+//! one by one, from the top, so that a stack that is too short ends the process at its guard page and harms no memory.
+//!
+//! ```
+//! use std::thread;
+//! use rumchivoat::{MapSize, Mode, Settings, stack};
+//!
+//! let settings = Settings::new(Mode::Snes, 4, MapSize { columns: 2, rows: 1 });
+//! let work = move || settings.convert_to_vec(&[1; 128]).is_ok();
+//! let station = thread::Builder::new().stack_size(stack::CONVERT + 64 * 1024).spawn(work)?;
+//! assert!(station.join().expect("the thread ends"));
+//! # Ok::<(), std::io::Error>(())
+//! ```
+
+/// [`convert`](crate::convert), and the calls over it.
+pub const CONVERT: usize = 300 * 1024;
+
+/// [`run`](crate::run), and [`run_to_vec`](crate::run_to_vec).
+pub const RUN: usize = 436 * 1024;
+
+/// Every other call.
+pub const OTHERS: usize = 8 * 1024;
