@@ -105,7 +105,9 @@ impl Refusal {
     pub(crate) const fn words(self) -> &'static str {
         match self {
             Refusal::Mode => "the mode number is above 15",
-            Refusal::PceSprite => "pce_sprite has no map entries, no pictures and no cell numbers, and its sets are not read",
+            Refusal::PceSprite => {
+                "pce_sprite has no map entries, no pictures and no cell numbers, and its sets are not read"
+            }
             Refusal::Depth => "the mode does not have this depth",
             Refusal::Size => {
                 "the mode has no tiles of this size, columns or rows are not 1 to 64, or a tile number is above 65,535"
@@ -120,7 +122,9 @@ impl Refusal {
             Refusal::Room => "there is no room for the tiles",
             Refusal::Discarded => "the tile is to be discarded, and the count of discarded tiles is at its end",
             Refusal::Settings => "the sheet is not eight lines of settings and exactly the picture's pixels",
-            Refusal::Unknown { .. } => "the archive answers what this crate does not know: build both from one checkout",
+            Refusal::Unknown { .. } => {
+                "the archive answers what this crate does not know: build both from one checkout"
+            }
         }
     }
 }

@@ -223,7 +223,7 @@ impl Cause {
             }
             Cause::Room { room } => write!(f, "there is room for {} and no more", Counted(room, "tile")),
             Cause::Count { stored, room } => {
-                write!(f, "the set counts {stored} tiles, and there is room for {room}")
+                write!(f, "the set counts {}, and there is room for {room}", Counted(stored as usize, "tile"))
             }
         }
     }

@@ -302,8 +302,7 @@ impl Set {
         if self.stored as usize > self.room(usize::MAX) {
             return Err(refused(Refusal::Count));
         }
-        let cells = self.cells();
-        Ok(cells.checked_mul(self.depth as usize * 8).unwrap_or(usize::MAX))
+        Ok(self.cells() * self.depth as usize * 8)
     }
 
     /// The size of the set's tiles.

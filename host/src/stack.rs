@@ -1,7 +1,8 @@
 //! How much stack the calls take, in bytes: enough for the call and all that it calls, on x86-64 and aarch64.
 //!
-//! A thread needs this much below the caller, and what the caller and the start of a thread take. The pages are touched
-//! one by one, from the top, so that a stack that is too short ends the process at its guard page and harms no memory.
+//! A thread needs this much below the caller, and what the caller and the start of a thread take. The archive for x86-64
+//! touches the pages of a large frame one by one, from the top: a stack that is too short ends the process at its guard
+//! page, and no memory is harmed.
 //!
 //! ```
 //! use std::thread;
@@ -15,7 +16,7 @@
 //! ```
 
 /// [`convert`](crate::convert), and the calls over it.
-pub const CONVERT: usize = 300 * 1024;
+pub const CONVERT: usize = 304 * 1024;
 
 /// [`run`](crate::run), and [`run_to_vec`](crate::run_to_vec).
 pub const RUN: usize = 436 * 1024;

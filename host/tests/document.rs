@@ -93,7 +93,7 @@ fn modes_and_refusals_have_document_01s_numbers() {
         assert_eq!(Refusal::try_from(number).map(Refusal::number), Ok(number));
     }
     assert_eq!((Refusal::try_from(0), Refusal::try_from(15)), (Err(0), Err(15)));
-    assert_eq!(Refusal::Depth.to_string(), "refused 3: depth not in the mode's row");
+    assert_eq!(Refusal::Depth.to_string(), "refused 3: the mode does not have this depth");
 }
 
 /// Examples (e) to (k), as document 01 spells them.

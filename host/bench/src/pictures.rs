@@ -7,7 +7,7 @@
 use std::hint::black_box;
 
 use reading::{MODES, Random, Shape};
-use rumchivoat::{Mode, Settings, convert, redraw};
+use rumchivoat::{MapSize, Mode, Settings, convert, redraw};
 use superfamiconv::{pictures, plain};
 
 use crate::{Measured, measured};
@@ -81,7 +81,9 @@ impl Case {
     }
 
     fn settings(&self, flip: bool) -> Settings {
-        Settings { flip, discard: true, ..Settings::new(self.mode, self.depth, self.side, self.side) }
+        let size = MapSize { columns: self.side, rows: self.side };
+        let settings = Settings::new(self.mode, self.depth, size).discarding();
+        if flip { settings.flips() } else { settings }
     }
 
     fn tile(&self, base: &[u8], random: &mut Random) -> Vec<u8> {
@@ -139,7 +141,7 @@ pub fn lines(random: &mut Random) -> impl Iterator<Item = Measured> {
 }
 
 fn rust_settings(settings: Settings) -> pictures::Settings {
-    let Settings { mode, depth, flip, discard, limit, palette, columns, rows } = settings;
+    let Settings { mode, depth, flip, discard, limit, palette, columns, rows, .. } = settings;
     pictures::Settings { mode: plain::mode(mode), depth, flip, discard, limit, palette, columns, rows }
 }
 

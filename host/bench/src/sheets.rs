@@ -3,7 +3,7 @@
 use std::hint::black_box;
 
 use reading::Random;
-use rumchivoat::{LONGEST_TEXT, Mode, Settings, convert, run};
+use rumchivoat::{LONGEST_TEXT, MapSize, Mode, Settings, convert, run};
 
 use crate::turn_about;
 
@@ -13,7 +13,8 @@ const TILES: usize = (SIDE * SIDE) as usize;
 
 /// Gba at depth 8 has the largest tiles, and as many as a sheet has places.
 fn settings(flip: bool) -> Settings {
-    Settings { flip, discard: true, ..Settings::new(Mode::Gba, 8, SIDE, SIDE) }
+    let settings = Settings::new(Mode::Gba, 8, MapSize { columns: SIDE, rows: SIDE }).discarding();
+    if flip { settings.flips() } else { settings }
 }
 
 /// Any pixels: no two tiles match.

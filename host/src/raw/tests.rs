@@ -131,3 +131,31 @@ fn refused_places_and_numbers_of_sets_are_empty() {
         }
     }
 }
+
+/// Numbers that are no refusal of document 01.
+const OTHER_NUMBERS: [u32; 4] = [15, 16, 255, u32::MAX];
+
+#[test]
+fn a_number_that_is_not_known_is_answered_in_every_call() {
+    for refusal in OTHER_NUMBERS {
+        let unknown = Refusal::of(refusal);
+        assert_eq!(unknown.number(), refusal);
+        assert_eq!(Written { refusal, written: 0 }.length(), Err(unknown));
+        assert_eq!(Written { refusal, written: 11 }.ran().map(|ran| ran.told), Ok(Some(unknown)));
+        assert_eq!(Number { refusal, value: 0 }.number(), Err(unknown));
+        assert_eq!(Number { refusal, value: 0 }.byte(), Err(unknown));
+        let entry = Entry { refusal, tile: 0, palette: 0, flip_h: false, flip_v: false, priority: false };
+        assert_eq!(entry.entry(), Err(unknown));
+        assert_eq!(SetAnswer { refusal, set: Set::default() }.set(), Err(unknown));
+        let place = Place { refusal, found: false, place: 0, flip_h: false, flip_v: false };
+        assert_eq!(place.place(), Err(unknown));
+    }
+}
+
+#[test]
+fn a_value_that_is_no_byte_is_not_cut() {
+    for value in [256, 511, u32::MAX] {
+        assert_eq!(Number { refusal: 0, value }.byte(), Err(Refusal::of(0)));
+    }
+    assert_eq!(Number { refusal: 0, value: 255 }.byte(), Ok(255));
+}

@@ -11,8 +11,10 @@ pub type Converted = (Result<Picture, u32>, Vec<u8>, Vec<u8>);
 /// The port's `convert`.
 pub fn convert(settings: Settings, pixels: &[u8], tiles: &mut [u8], map: &mut [u8]) -> Result<Picture, u32> {
     let Settings { mode, depth, flip, discard, limit, palette, columns, rows } = settings;
-    let asked = rumchivoat::Settings { mode, depth, flip, discard, limit, palette, columns, rows };
-    let rumchivoat::Picture { tiles, discarded, tile_bytes, map_bytes } =
+    let size = rumchivoat::MapSize { columns, rows };
+    let mut asked = rumchivoat::Settings::new(mode, depth, size).limit(limit).palette(palette);
+    (asked.flip, asked.discard) = (flip, discard);
+    let rumchivoat::Picture { tiles, discarded, tile_bytes, map_bytes, .. } =
         told(rumchivoat::convert(asked, pixels, tiles, map))?;
     Ok(Picture { tiles, discarded, tile_bytes, map_bytes })
 }

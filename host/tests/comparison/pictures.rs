@@ -67,7 +67,7 @@ fn same_converted(settings: Settings, pixels: &[u8], random: &mut Random) -> u64
 fn rust_set(settings: Settings, bytes: &[u8]) -> Result<plain::Tileset, String> {
     let mode = plain::mode(settings.mode);
     let read = || plain::from_native_data(mode, settings.depth, 8, 8, true, bytes);
-    if settings.depth > 1 || bytes.is_empty() || !bytes.len().is_multiple_of(8) {
+    if settings.depth > 1 || bytes.is_empty() || bytes.len() % 8 != 0 {
         return read();
     }
     assert!(quietly(read).is_err(), "the Rust runs off a tile's 8 bytes");

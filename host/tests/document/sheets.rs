@@ -1,6 +1,6 @@
 //! Sheets against document 01: `run` on good and damaged ones.
 
-use std::thread;
+use std::fs;
 
 use reading::{KEYS, MODES, Random, Row, Settings, Text};
 use rumchivoat::{LONGEST_TEXT, Mode, Ran, Refusal};
@@ -523,22 +523,28 @@ pub fn longest() -> Sheet {
     screen(settings, 1024)
 }
 
-/// `LONGEST_TEXT` is the length of the longest text and of no longer one, and the call has stack enough, as its
-/// documentation has them.
+/// The definition that `text-fits` (crates/sheet/proofs/Fitting.antt) proves every text to be no longer than.
+const PROVED: &str = concat!(env!("CARGO_MANIFEST_DIR"), "/../crates/sheet/specs/Program.antt");
+
+/// `LONGEST_TEXT` is the length that is proved to hold every text, and the longest text comes near it.
 #[test]
-fn the_longest_text_and_the_stack() {
+fn the_longest_text() {
+    let text = fs::read_to_string(PROVED).expect("the definition can be read");
+    assert!(
+        text.lines().any(|line| line == format!("outSpace = {LONGEST_TEXT}")),
+        "{LONGEST_TEXT} is not the proved one"
+    );
+
     let mut longest_text = 0;
     for flagged in picture_modes().flat_map(with_every_flag) {
         let different = most_tiles(flagged).min(1024);
-        let mut out = vec![0; LONGEST_TEXT];
-        let written = rumchivoat::run(&screen(flagged, different).bytes(), &mut out).expect("every text fits").written;
-        longest_text = written.max(longest_text);
+        let input = screen(flagged, different).bytes();
+        let text = rumchivoat::run_to_vec(&input).expect("every text fits");
+        let mut out = vec![0; text.bytes.len()];
+        assert_eq!(rumchivoat::run(&input, &mut out), Ok(Ran { written: out.len(), told: None }));
+        assert_eq!((&out, text.told), (&text.bytes, None));
+        longest_text = out.len().max(longest_text);
     }
-    assert_eq!(longest_text, LONGEST_TEXT);
-
-    let input = longest().bytes();
-    let mut out = vec![0; LONGEST_TEXT];
-    let call = move || rumchivoat::run(&input, &mut out);
-    let thread = thread::Builder::new().stack_size(512 * 1024).spawn(call).expect("a thread can be started");
-    assert_eq!(thread.join().expect("the call ends"), Ok(Ran { written: LONGEST_TEXT, told: None }));
+    assert_eq!(longest_text, rumchivoat::run_to_vec(&longest().bytes()).expect("every text fits").bytes.len());
+    assert!((LONGEST_TEXT - 256..=LONGEST_TEXT).contains(&longest_text), "{longest_text}");
 }

@@ -1,0 +1,197 @@
+//! The lengths that the crate tells, against the calls: a buffer of that length is accepted, and one byte less is
+//! refused.
+
+use rumchivoat::{
+    MapSize, Mode, Refusal, Set, SetSettings, Settings, TileSet, TileSize, convert, pack_colors, pack_colors_to_vec,
+    pack_tile, pack_tile_to_vec, redraw, unpack_colors, unpack_colors_to_vec, unpack_tile, unpack_tile_to_vec,
+};
+
+const SIDES: [u32; 6] = [0, 8, 16, 32, 64, 128];
+
+fn sizes() -> impl Iterator<Item = TileSize> {
+    SIDES.into_iter().flat_map(|width| SIDES.map(|height| TileSize { width, height }))
+}
+
+/// Settings of every mode number, depth, size, limit and palette around the edges.
+fn settings() -> impl Iterator<Item = Settings> {
+    let modes = (0..16).chain([16, u32::MAX]);
+    let deep = modes.flat_map(|mode| [0, 1, 2, 3, 4, 8, 9, u32::MAX].map(|depth| (mode, depth)));
+    let sides = [(1, 1), (2, 1), (5, 7), (64, 64), (0, 1), (1, 0), (65, 1), (1, 65), (u32::MAX, u32::MAX)];
+    let sized = deep.flat_map(move |(mode, depth)| {
+        sides.map(|(columns, rows)| Settings::new(mode, depth, MapSize { columns, rows }).discarding())
+    });
+    let flagged = sized.flat_map(|settings| [settings, settings.flips()]);
+    flagged.flat_map(|settings| {
+        [(0, 0), (1, 0), (3, 7), (1000, 15), (u32::MAX, 16)]
+            .map(|(limit, palette)| settings.limit(limit).palette(palette))
+    })
+}
+
+/// A tile that matches no other number's, under no flip: the first row and one pixel of the last show which way up it
+/// is, and the number's 12 bits stand between.
+fn numbered_tile(number: usize) -> [u8; 64] {
+    let mut tile = [0; 64];
+    tile[..8].fill(1);
+    tile[56] = 1;
+    for (bit, pixel) in tile[8..20].iter_mut().enumerate() {
+        *pixel = (number >> bit & 1) as u8;
+    }
+    tile
+}
+
+/// The pixels of a picture with so many different tiles; the last is repeated.
+fn picture(settings: Settings, different: usize) -> Vec<u8> {
+    let (columns, rows) = (settings.columns as usize, settings.rows as usize);
+    let mut pixels = vec![0; 64 * columns * rows];
+    for place in 0..columns * rows {
+        let tile = numbered_tile(place.min(different - 1));
+        for (row, line) in tile.chunks_exact(8).enumerate() {
+            let start = (place / columns * 8 + row) * columns * 8 + place % columns * 8;
+            pixels[start..start + 8].copy_from_slice(line);
+        }
+    }
+    pixels
+}
+
+/// Where the settings are refused, so is every conversion by them; where not, the three lengths are enough for a picture
+/// with as many different tiles as may be stored, and none can be less.
+#[test]
+fn pictures() {
+    let mut done = 0;
+    for settings in settings() {
+        let (pixel_len, map_len, tile_len) = match settings.pixel_len() {
+            Err(refused) => {
+                assert_eq!((settings.map_len(), settings.tile_len()), (Err(refused), Err(refused)));
+                let counted = settings.columns <= 65 && settings.rows <= 65;
+                let pixels = vec![0; if counted { 64 * (settings.columns * settings.rows) as usize } else { 0 }];
+                let answer = convert(settings, &pixels, &mut [0; 64], &mut [0; 2]);
+                assert_eq!(answer, Err(refused.refusal), "{settings:?}");
+                assert_eq!(settings.convert_to_vec(&pixels), Err(refused), "{settings:?}");
+                continue;
+            }
+            Ok(pixel_len) => (pixel_len, settings.map_len().unwrap(), settings.tile_len().unwrap()),
+        };
+        let pixels = picture(settings, tile_len / (8 * settings.depth as usize));
+        assert_eq!(pixels.len(), pixel_len);
+        let (mut tiles, mut map) = (vec![0; tile_len], vec![0; map_len]);
+        let picture = convert(settings, &pixels, &mut tiles, &mut map).unwrap();
+        assert_eq!((picture.tile_bytes, picture.map_bytes), (tile_len, map_len), "{settings:?}");
+
+        let refused = |answer: Result<_, Refusal>| answer.map(|_| ()).unwrap_err();
+        assert_eq!(refused(convert(settings, &pixels[1..], &mut tiles, &mut map)), Refusal::Length);
+        assert_eq!(refused(convert(settings, &pixels, &mut tiles, &mut map[1..])), Refusal::Output);
+        assert_eq!(refused(convert(settings, &pixels, &mut tiles[1..], &mut map)), Refusal::Room);
+
+        let converted = settings.convert_to_vec(&pixels).unwrap();
+        assert_eq!((&converted.tiles, &converted.map, converted.picture), (&tiles, &map, picture), "{settings:?}");
+        assert_eq!(settings.redraw_to_vec(&tiles, &map).unwrap(), pixels, "{settings:?}");
+        let Settings { mode, depth, columns, rows, .. } = settings;
+        let short = redraw(mode, depth, columns, rows, &tiles, &map, &mut vec![0; pixel_len - 1]);
+        assert_eq!(short, Err(Refusal::Output));
+        done += 1;
+    }
+    assert!(done > 400, "{done} settings were accepted");
+}
+
+/// Sets of every shape and of counts around whole rows.
+#[test]
+fn written_sets() {
+    let mut done = 0;
+    for mode in 0..=16u32 {
+        for depth in [1, 2, 3, 4, 8] {
+            for size in sizes() {
+                done += written_shape(SetSettings::new(mode, depth, size));
+            }
+        }
+    }
+    assert!(done > 1000, "{done} sets were written");
+}
+
+fn written_shape(settings: SetSettings) -> usize {
+    let mut set = match Set::with_settings(settings) {
+        Ok(set) => set,
+        Err(refusal) => {
+            assert_eq!(settings.store_len(1).map_err(Refusal::from), Err(refusal), "{settings:?}");
+            assert_eq!(TileSet::new(settings, vec![0; 64]).map(drop).map_err(Refusal::from), Err(refusal));
+            let TileSize { width, height } = settings.size;
+            let none = Set { mode: settings.mode, depth: settings.depth, width, height, ..Set::default() };
+            assert_eq!(none.write_len().map_err(Refusal::from), Err(refusal), "{settings:?}");
+            return 0;
+        }
+    };
+    let store = vec![0; settings.store_len(17).unwrap()];
+    for stored in [0, 1, 2, 3, 7, 8, 9, 16, 17] {
+        set.stored = stored;
+        let length = set.write_len().unwrap();
+        assert_eq!(set.write(&store, &mut vec![0; length]), Ok(length), "{set:?}");
+        assert_eq!(set.write(&store, &mut vec![0; length + 1]), Ok(length), "{set:?}");
+        if length > 0 {
+            assert_eq!(set.write(&store, &mut vec![0; length - 1]), Err(Refusal::Output), "{set:?}");
+        }
+    }
+    // one tile more than the store has
+    set.stored = 18;
+    assert_eq!(set.write(&store, &mut [0; 1]), Err(Refusal::Count));
+    set.limit = 17;
+    assert_eq!(set.write_len().map_err(Refusal::from), Err(Refusal::Count));
+    (set.limit, set.stored) = (0, 65_535);
+    assert!(set.write_len().is_ok());
+    set.stored = 65_536;
+    assert_eq!(set.write_len().map_err(Refusal::from), Err(Refusal::Count));
+    assert_eq!(settings.store_len(65_536).map_err(Refusal::from), Err(Refusal::Count));
+    9
+}
+
+/// A store of exactly the length that the refusal of a shorter one names is enough.
+#[test]
+fn read_sets() {
+    let modes = Mode::ALL.into_iter().filter(|&mode| mode != Mode::PceSprite);
+    let shapes = modes.flat_map(|mode| mode.depths().iter().map(move |&depth| (mode, depth)));
+    for ((mode, depth), size) in shapes.flat_map(|shape| sizes().map(move |size| (shape, size))) {
+        if Set::with_settings(SetSettings::new(mode, depth, size)).is_err() {
+            continue;
+        }
+        for cells in (0..70).chain([127, 128, 129, 255, 256, 257]) {
+            let bytes = vec![0x5a; cells * 8 * depth as usize];
+            let read = TileSet::read(mode, depth, size, true, &bytes, vec![0; 64 * cells]).unwrap();
+            let needed = read.len() * (size.width * size.height) as usize;
+            assert!(TileSet::read(mode, depth, size, true, &bytes, vec![0; needed]).is_ok());
+            if needed > 0 {
+                let refused = TileSet::read(mode, depth, size, true, &bytes, vec![0; needed - 1]).unwrap_err();
+                let words = format!("refused 11: the store needs {needed} bytes and has {}", needed - 1);
+                assert_eq!(refused.to_string(), words, "{mode} {depth} {size} {cells} cells");
+            }
+        }
+    }
+}
+
+/// The calls that give a `Vec` give what the calls on slices write, and are refused as they are.
+#[test]
+fn vectors_hold_what_slices_do() {
+    for mode in (0..16).chain([16, u32::MAX]) {
+        for length in 0..=40 {
+            let bytes: Vec<u8> = (0..length).map(|number| number % 4).collect();
+            let mut out = [0xee; 4 * 40];
+            let packed = pack_colors(mode, &bytes, &mut out).map(|written| out[..written].to_vec());
+            assert_eq!(pack_colors_to_vec(mode, &bytes).map_err(Refusal::from), packed, "{mode} {bytes:?}");
+            let unpacked = unpack_colors(mode, &bytes, &mut out).map(|written| out[..written].to_vec());
+            assert_eq!(unpack_colors_to_vec(mode, &bytes).map_err(Refusal::from), unpacked, "{mode} {bytes:?}");
+        }
+        for depth in 0..=9 {
+            for size in sizes() {
+                for length in [0, 8, 16, 32, 64, 128, 256, 512, 1024, 2048] {
+                    same_tiles(mode, depth, size, &vec![1; length]);
+                }
+            }
+        }
+    }
+}
+
+fn same_tiles(mode: u32, depth: u32, size: TileSize, input: &[u8]) {
+    let mut out = [0xee; 2048];
+    let TileSize { width, height } = size;
+    let packed = pack_tile(mode, depth, width, height, input, &mut out).map(|written| out[..written].to_vec());
+    assert_eq!(pack_tile_to_vec(mode, depth, size, input).map_err(Refusal::from), packed, "{mode} {depth} {size}");
+    let unpacked = unpack_tile(mode, depth, width, height, input, &mut out).map(|written| out[..written].to_vec());
+    assert_eq!(unpack_tile_to_vec(mode, depth, size, input).map_err(Refusal::from), unpacked, "{mode} {depth} {size}");
+}

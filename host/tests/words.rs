@@ -1,0 +1,200 @@
+//! The words of a refusal tell the values, need no paper at hand, and belong to the number that the archive gave.
+
+use rumchivoat::{
+    Cause, Entry, MapSize, Mode, Refusal, Refused, SetSettings, Settings, TileSet, TileSize, pack_colors_to_vec,
+    pack_tile_to_vec, unpack_colors_to_vec, unpack_tile_to_vec,
+};
+
+/// The words of a call that is refused.
+fn words<T>(answer: Result<T, Refused>) -> String {
+    answer.err().map_or_else(|| "it was done".to_owned(), |refused| refused.to_string())
+}
+
+fn picture(mode: Mode, depth: u32) -> Settings {
+    Settings::new(mode, depth, MapSize { columns: 2, rows: 1 })
+}
+
+#[test]
+fn entries() {
+    let plain = Entry::default();
+    let cases = [
+        (Mode::Pce, Entry { tile: 4096, ..plain }, "refused 10: tile index 4096 does not fit pce's 12 bits"),
+        (Mode::Gb, Entry { tile: 256, palette: 1, ..plain }, "refused 10: tile index 256 does not fit gb's 8 bits"),
+        (Mode::Snes, Entry { palette: 8, ..plain }, "refused 10: palette index 8 does not fit snes's 3 bits"),
+        (Mode::Sms, Entry { palette: 2, ..plain }, "refused 10: palette index 2 does not fit sms's 1 bit"),
+        (Mode::Gb, Entry { palette: 1, ..plain }, "refused 10: gb has no palette index, and 1 was given"),
+        (Mode::Pce, Entry { flip_v: true, ..plain }, "refused 10: pce has no flips"),
+        (Mode::Gba, Entry { flip_h: true, priority: true, ..plain }, "refused 10: gba has no priority"),
+        (
+            Mode::PceSprite,
+            plain,
+            "refused 2: pce_sprite has no map entries, no pictures and no cell numbers, and its sets are not read",
+        ),
+    ];
+    for (mode, entry, expected) in cases {
+        assert_eq!(words(entry.pack(mode, &mut [0; 2])), expected);
+        assert_eq!(words(entry.pack_to_vec(mode)), expected);
+    }
+    assert_eq!(words(plain.pack(Mode::Snes, &mut [0; 1])), "refused 11: the output needs 2 bytes and has 1");
+    assert_eq!(words(plain.pack(Mode::Gb, &mut [])), "refused 11: the output needs 1 byte and has 0");
+    assert_eq!(words(plain.pack_to_vec(16u32)), "refused 1: there is no mode 16: the modes are 0 to 15");
+    assert_eq!(words(Entry::unpack(Mode::Snes, &[0; 3])), "refused 7: 2 bytes are needed, 3 were given");
+    assert_eq!(words(Entry::unpack(Mode::Gb, &[])), "refused 7: 1 byte is needed, 0 were given");
+}
+
+/// Every entry that is refused with 10 has a cause of its own.
+#[test]
+fn every_misfit_has_a_cause() {
+    for mode in Mode::ALL {
+        for bits in 0..=32u32 {
+            let number = ((1u64 << bits) - 1) as u32;
+            for flags in 0..8 {
+                let (flip_h, flip_v, priority) = (flags & 1 != 0, flags & 2 != 0, flags & 4 != 0);
+                for (tile, palette) in [(number, 0), (0, number)] {
+                    let entry = Entry { tile, palette, flip_h, flip_v, priority };
+                    if let Err(refused) = entry.pack_to_vec(mode) {
+                        assert_eq!(refused.cause == Cause::Plain, refused.refusal == Refusal::PceSprite, "{refused}");
+                    }
+                }
+            }
+        }
+    }
+}
+
+#[test]
+fn tiles() {
+    let pack = |mode, depth, size, pixels: &[u8]| words(pack_tile_to_vec(mode, depth, size, pixels));
+    let cell = TileSize::CELL;
+    assert_eq!(pack(Mode::Snes, 7, cell, &[]), "refused 3: snes has depths 2, 4 and 8, not 7");
+    assert_eq!(pack(Mode::Gb, 4, cell, &[]), "refused 3: gb has depths 1 and 2, not 4");
+    assert_eq!(pack(Mode::Md, 2, cell, &[]), "refused 3: md has depth 4 alone, not 2");
+    let tall = TileSize { width: 8, height: 16 };
+    assert_eq!(pack(Mode::Md, 4, tall, &[]), "refused 4: md has no tiles of 8x16");
+    assert_eq!(pack(Mode::Md, 4, cell, &[0; 65]), "refused 7: 64 pixels are needed, 65 were given");
+    assert_eq!(pack(Mode::Md, 4, cell, &[16; 64]), "refused 8: pixel 0 is 16, and depth 4 holds 0 to 15");
+    assert_eq!(words(unpack_tile_to_vec(Mode::Md, 4, cell, &[0])), "refused 7: 32 bytes are needed, 1 was given");
+    let sprite = TileSize { width: 32, height: 64 };
+    let unpacked = unpack_tile_to_vec(Mode::PceSprite, 4, sprite, &[0; 9]);
+    assert_eq!(words(unpacked), "refused 7: 1024 bytes are needed, 9 were given");
+    assert_eq!(words(unpack_tile_to_vec(99u32, 4, cell, &[])), "refused 1: there is no mode 99: the modes are 0 to 15");
+}
+
+#[test]
+fn colors() {
+    let pack = |mode, colors: &[u8]| words(pack_colors_to_vec(mode, colors));
+    let unpack = |mode, bytes: &[u8]| words(unpack_colors_to_vec(mode, bytes));
+    assert_eq!(pack(Mode::Snes, &[0; 5]), "refused 7: 5 bytes are no multiple of 4");
+    assert_eq!(pack(Mode::Gb, &[0; 12]), "refused 7: 4 colours are needed, 3 were given");
+    assert_eq!(pack(Mode::Gb, &[0; 17]), "refused 7: 17 bytes are no multiple of 4");
+    assert_eq!(pack(Mode::Md, &[0, 8, 9, 255]), "refused 9: colour 0 has a component of 8, and md's top is 7");
+    assert_eq!(unpack(Mode::Snes, &[0; 1]), "refused 7: 1 byte is no multiple of 2");
+    assert_eq!(unpack(Mode::Gb, &[0; 2]), "refused 7: 1 byte is needed, 2 were given");
+    assert_eq!(unpack(Mode::Ws, &[0; 4]), "refused 7: 2 bytes are needed, 4 were given");
+    assert_eq!(unpack(Mode::Ngp, &[]), "refused 7: 4 bytes are needed, 0 were given");
+}
+
+#[test]
+fn pictures() {
+    let snes = picture(Mode::Snes, 2);
+    let convert = |settings: Settings, pixels: &[u8]| words(settings.convert_to_vec(pixels));
+    assert_eq!(convert(picture(Mode::Snes, 7), &[0; 128]), "refused 3: snes has depths 2, 4 and 8, not 7");
+    let wide = Settings::new(Mode::Snes, 2, MapSize { columns: 65, rows: 1 });
+    assert_eq!(convert(wide, &[]), "refused 4: columns and rows are 1 to 64 each, not 65x1");
+    assert_eq!(convert(picture(Mode::Pce, 4).flips(), &[0; 128]), "refused 5: pce has no flips");
+    assert_eq!(convert(snes, &[0; 127]), "refused 7: 128 pixels are needed, 127 were given");
+    assert_eq!(convert(snes.palette(8), &[0; 128]), "refused 10: palette index 8 does not fit snes's 3 bits");
+    assert_eq!(convert(snes.limit(1), &[0; 128]), "refused 12: there is room for 1 tile and no more");
+    let (mut tiles, mut map) = ([0; 47], [0; 3]);
+    let short = snes.convert(&[0; 128], &mut tiles, &mut map);
+    assert_eq!(words(short), "refused 11: the map needs 4 bytes and has 3");
+    let short = snes.convert(&[0; 128], &mut tiles[..31], &mut [0; 4]);
+    assert_eq!(words(short), "refused 12: there is room for 1 tile and no more");
+    // every tile of a full map, and one more than gb's entries can name
+    let large = Settings::new(Mode::Gb, 1, MapSize { columns: 64, rows: 64 });
+    assert_eq!(convert(large, &[0; 64 * 4096]), "refused 12: there is room for 256 tiles and no more");
+
+    let redraw = |tiles: &[u8], map: &[u8]| words(snes.redraw_to_vec(tiles, map));
+    assert_eq!(redraw(&[0; 17], &[0; 4]), "refused 7: 17 tile bytes are no multiple of 16");
+    assert_eq!(redraw(&[0; 16], &[0; 3]), "refused 7: 4 map bytes are needed, 3 were given");
+    let missing = "refused 7: the map names tile 2, and the tile bytes hold 2 tiles";
+    assert_eq!(redraw(&[0; 32], &[1, 0, 2, 0]), missing);
+    let short = snes.redraw(&[0; 16], &[0; 4], &mut [0; 127]);
+    assert_eq!(words(short), "refused 11: the output needs 128 bytes and has 127");
+    assert_eq!(words(wide.redraw_to_vec(&[], &[])), "refused 4: columns and rows are 1 to 64 each, not 65x1");
+    // flips and palette have no part in redrawing
+    assert_eq!(words(picture(Mode::Pce, 4).flips().palette(99).redraw_to_vec(&[0; 32], &[0; 4])), "it was done");
+}
+
+#[test]
+fn sets() {
+    let settings = SetSettings::new(Mode::Snes, 2, TileSize::CELL);
+    let mut set = TileSet::new(settings.limit(1), vec![0; 640]).unwrap();
+    assert_eq!(words(set.add(&[0; 63])), "refused 7: 64 pixels are needed, 63 were given");
+    assert_eq!(words(set.look_up(&[0; 65])), "refused 7: 64 pixels are needed, 65 were given");
+    set.add(&[1; 64]).unwrap();
+    assert_eq!(words(set.add(&[2; 64])), "refused 12: there is room for 1 tile and no more");
+    assert_eq!(words(set.write(&mut [0; 15])), "refused 11: the output needs 16 bytes and has 15");
+    let wide = SetSettings::new(Mode::Md, 4, TileSize { width: 16, height: 32 });
+    assert_eq!(words(TileSet::new(wide, vec![])), "refused 4: md has no tiles of 16x32");
+    assert_eq!(words(settings.limit(4).store_len(5)), "refused 6: the set counts 5 tiles, and there is room for 4");
+    let read = |mode: Mode, bytes: &[u8]| {
+        words(TileSet::read(mode, mode.depths()[0], TileSize::CELL, false, bytes, vec![0; 64]))
+    };
+    assert_eq!(read(Mode::Snes, &[0; 17]), "refused 7: 17 bytes are no multiple of 16");
+    assert_eq!(read(Mode::Snes, &[0; 32]), "refused 11: the store needs 128 bytes and has 64");
+}
+
+/// A set's store that shrinks behind its back is told, and not read beyond its end.
+#[test]
+fn a_store_that_shrinks_is_told() {
+    let mut set = TileSet::new(SetSettings::new(Mode::Snes, 2, TileSize::CELL), Shrinking(vec![0; 128])).unwrap();
+    set.add(&[1; 64]).unwrap();
+    assert_eq!(words(set.add(&[2; 64])), "refused 6: the set counts 1 tile, and there is room for 0");
+    assert_eq!(words(set.write_to_vec()), "refused 6: the set counts 1 tile, and there is room for 0");
+}
+
+/// A store that has half its length when it is asked for again.
+struct Shrinking(Vec<u8>);
+
+impl AsRef<[u8]> for Shrinking {
+    fn as_ref(&self) -> &[u8] {
+        &self.0
+    }
+}
+
+impl AsMut<[u8]> for Shrinking {
+    fn as_mut(&mut self) -> &mut [u8] {
+        self.0.truncate(self.0.len() / 2);
+        &mut self.0
+    }
+}
+
+/// `?` carries a refusal from one layer into the other, and both are errors.
+#[test]
+fn the_layers_meet() {
+    fn plain() -> Result<usize, Refusal> {
+        Ok(Entry::default().pack(Mode::Snes, &mut [0; 1])?)
+    }
+    fn typed() -> Result<usize, Refused> {
+        Ok(rumchivoat::pack_entry(Mode::Snes, Entry::default(), &mut [0; 1])?)
+    }
+    fn any() -> Result<usize, Box<dyn std::error::Error + Send + Sync>> {
+        Ok(Entry::default().pack(Mode::Snes, &mut [0; 1])?)
+    }
+    assert_eq!(plain(), Err(Refusal::Output));
+    assert_eq!(words(typed()), "refused 11: the output is shorter than the bytes to be written");
+    assert_eq!(any().unwrap_err().to_string(), "refused 11: the output needs 2 bytes and has 1");
+}
+
+/// No word of a refusal sends the reader to a paper.
+#[test]
+fn refusals_need_no_paper() {
+    for refusal in Refusal::ALL {
+        let words = refusal.to_string();
+        assert!(words.starts_with(&format!("refused {}: ", refusal.number())), "{words}");
+        assert!(
+            ["below", "above all", "document", "row"].iter().all(|word| !words.contains(&format!(" {word} "))),
+            "{words}"
+        );
+    }
+}
