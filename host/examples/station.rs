@@ -1,42 +1,88 @@
-//! A station in small: a tile, a palette and a map entry, packed for three consoles, a set of tiles, and a refusal.
+//! A station in small: the interface is checked, a picture is converted, redrawn and compared, a set of tiles is
+//! written, and a refusal is told in words.
 
-use rumchivoat::{Entry, Mode, Set, pack_colors, pack_entry, pack_tile, unpack_entry};
+use std::error::Error;
+
+use rumchivoat::{
+    Entry, INTERFACE, MapSize, Mode, SetSettings, Settings, TileSet, TileSize, check_interface, pack_colors_to_vec,
+};
+
+const SIZE: MapSize = MapSize { columns: 4, rows: 4 };
+
+/// The picture's pixels a side.
+const SIDE: usize = 32;
 
 fn hex(bytes: &[u8]) -> String {
     bytes.iter().map(|byte| format!("{byte:02x}")).collect::<Vec<_>>().join(" ")
 }
 
-fn main() {
-    let mut slope = [0; 64];
-    for row in 0..8 {
-        slope[9 * row] = 1;
-    }
-    let white_and_red = [3, 3, 3, 255, 3, 0, 0, 255];
-    let entry = Entry { tile: 257, palette: 1, flip_h: true, flip_v: false, priority: false };
-    for mode in [Mode::Snes, Mode::Md, Mode::Sms] {
-        let mut palette = [0; 4];
-        let written = pack_colors(mode, &white_and_red, &mut palette).expect("no component is above the top");
-        let mut map = [0; 2];
-        pack_entry(mode, entry, &mut map).expect("every field fits");
-        assert_eq!(unpack_entry(mode, &map), Ok(entry));
-        let mut tile = [0; 32];
-        let length = pack_tile(mode, 4, 8, 8, &slope, &mut tile).expect("every pixel fits four bits");
-        println!("{:<5} tile    {} ..", mode.name(), hex(&tile[..length.min(8)]));
-        println!("{:<5} palette {:<12} entry {}", mode.name(), hex(&palette[..written]), hex(&map));
-    }
+/// A ring on a ground: one corner of it, and its mirror images.
+fn ring() -> Vec<u8> {
+    let from_middle = |place: usize| (2 * place + 1).abs_diff(SIDE);
+    let pixel = |x: usize, y: usize| {
+        let square = from_middle(x).pow(2) + from_middle(y).pow(2);
+        u8::from((400..900).contains(&square)) + u8::from(square < 150) * 2
+    };
+    (0..SIDE).flat_map(|y| (0..SIDE).map(move |x| pixel(x, y))).collect()
+}
 
-    let mut mirrored = slope;
-    mirrored.chunks_exact_mut(8).for_each(<[u8]>::reverse);
-    let mut store = [0; 4 * 64];
-    let mut set = Set::new(Mode::Snes, 4, 8, 8, true, true, 0).expect("snes has sets of 8x8 at depth 4");
-    for tile in [slope, [0; 64], mirrored, slope] {
-        set.add(&mut store, &tile).expect("the store has room for four tiles");
+/// Converts the picture, redraws it from the bytes, and compares every pixel.
+fn convert(mode: Mode, depth: u32, pixels: &[u8]) -> Result<(), Box<dyn Error>> {
+    let plain = Settings::new(mode, depth, SIZE).discarding();
+    let settings = if mode.has_flips() { plain.flips() } else { plain };
+    let converted = settings.convert_to_vec(pixels)?;
+    let redrawn = settings.redraw_to_vec(&converted.tiles, &converted.map)?;
+    let differ = redrawn.iter().zip(pixels).filter(|(drawn, given)| drawn != given).count();
+    if redrawn.len() != pixels.len() || differ > 0 {
+        return Err(format!("{mode}: {differ} of {} pixels differ", pixels.len()).into());
     }
-    let mut bytes = [0; 4 * 32];
-    let length = set.write(&store, &mut bytes).expect("the bytes have room for four tiles");
-    println!("{:<5} set     {} stored, {} discarded, {length} bytes", Mode::Snes.name(), set.stored, set.discarded);
+    let picture = converted.picture;
+    println!(
+        "{mode:<5} picture  {SIZE} tiles: {} stored, {} discarded; {} tile bytes, {} map bytes; redrawn, {} pixels agree",
+        picture.tiles,
+        picture.discarded,
+        picture.tile_bytes,
+        picture.map_bytes,
+        redrawn.len()
+    );
+    let palette = pack_colors_to_vec(mode, &[3, 3, 3, 255, 3, 0, 0, 255, 0, 0, 3, 255, 0, 0, 0, 255])?;
+    println!("{mode:<5} palette  {}", hex(&palette));
+    println!("{mode:<5} map      {} ..", hex(converted.map.get(..8).unwrap_or(&converted.map)));
+    Ok(())
+}
 
+/// Adds the picture's quarters to a set of 16x16 tiles, and writes it.
+fn collect(pixels: &[u8]) -> Result<(), Box<dyn Error>> {
+    let settings = SetSettings::new(Mode::Snes, 4, TileSize { width: 16, height: 16 }).flips().discarding();
+    let mut set = TileSet::new(settings, vec![0; settings.store_len(4)?])?;
+    for (left, top) in [(0, 0), (16, 0), (0, 16), (16, 16)] {
+        let rows = pixels.chunks_exact(SIDE).skip(top).take(16);
+        let quarter: Vec<u8> = rows.flat_map(|row| row.iter().skip(left).take(16)).copied().collect();
+        set.add(&quarter)?;
+    }
+    let bytes = set.write_to_vec()?;
+    println!("snes  set      16x16 tiles: {} stored, {} discarded; {} bytes", set.len(), set.discarded(), bytes.len());
+    Ok(())
+}
+
+/// An entry that pce does not hold: the words say why, and the buffer stays as it was.
+fn refuse() {
+    let entry = Entry { tile: 4096, ..Entry::default() };
     let mut untouched = [0xee; 2];
-    let refusal = pack_entry(Mode::Pce, entry, &mut untouched).expect_err("pce has no flips");
-    println!("{:<5} {refusal}; the buffer still holds {}", Mode::Pce.name(), hex(&untouched));
+    match entry.pack(Mode::Pce, &mut untouched) {
+        Ok(written) => println!("pce   entry    {written} bytes"),
+        Err(refused) => println!("pce   entry    {refused}; the buffer still holds {}", hex(&untouched)),
+    }
+}
+
+fn main() -> Result<(), Box<dyn Error>> {
+    check_interface()?;
+    println!("the archive has interface {INTERFACE}");
+    let pixels = ring();
+    for (mode, depth) in [(Mode::Snes, 4), (Mode::Md, 4), (Mode::Gb, 2)] {
+        convert(mode, depth, &pixels)?;
+    }
+    collect(&pixels)?;
+    refuse();
+    Ok(())
 }

@@ -24,8 +24,8 @@ type Part = (&'static str, fn() -> u64);
 
 #[test]
 fn the_port_and_the_rust() {
-    if !superfamiconv::PRESENT {
-        return say(&format!("comparison with the Rust {}", superfamiconv::ABSENT));
+    if superfamiconv::absent("comparison with the Rust") {
+        return;
     }
     let parts: [Part; 37] = [
         ("modes", modes),
@@ -73,11 +73,6 @@ fn the_port_and_the_rust() {
         sum += count;
     }
     say(&format!("comparison with the Rust: {sum} comparisons in {} parts, all as expected", parts.len()));
-}
-
-/// Says a line also where the output of a test that passes is not shown.
-fn say(line: &str) {
-    writeln!(std::io::stderr(), "{line}").expect("standard error can be written");
 }
 
 fn rows() -> impl Iterator<Item = (u32, &'static Row, plain::Mode)> {

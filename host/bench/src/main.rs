@@ -45,8 +45,8 @@ struct Sides {
 }
 
 fn main() {
-    if !superfamiconv::PRESENT {
-        return println!("benchmark {}", superfamiconv::ABSENT);
+    if superfamiconv::absent("benchmark") {
+        return;
     }
     println!("{}; median of {RUNS} runs, ns of processor time for one colour, entry or tile\n", processor());
     println!("{:<14} {:<22} {:>5} {:>9} {:>9} {:>10}", "call", "mode", "items", "port", "Rust", "Rust/port");

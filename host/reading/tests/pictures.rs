@@ -54,8 +54,8 @@ fn same_picture(settings: Settings, pixels: &[u8]) {
 
 #[test]
 fn converted_and_redrawn() {
-    if !superfamiconv::PRESENT {
-        return println!("the reading of pictures against the Rust, {}", superfamiconv::ABSENT);
+    if superfamiconv::absent("the reading of pictures against the Rust") {
+        return;
     }
     let mut random = Random::new(4);
     for settings in every_settings() {

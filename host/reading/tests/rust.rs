@@ -9,10 +9,7 @@ fn rows() -> impl Iterator<Item = (u32, &'static Row, plain::Mode)> {
 
 /// Whether there is no Rust to compare with, which is then said.
 fn absent() -> bool {
-    if !superfamiconv::PRESENT {
-        println!("the reading against the Rust, {}", superfamiconv::ABSENT);
-    }
-    !superfamiconv::PRESENT
+    superfamiconv::absent("the reading against the Rust")
 }
 
 /// The bytes that a call of the reading writes.

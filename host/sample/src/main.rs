@@ -1,12 +1,19 @@
-//! Prints the fixed list: a sample of the Rust's answers, the same in every run.
+//! Makes the fixed list: a sample of the Rust's answers, the same in every run.
 //!
-//! `cargo run --release --offline --bin sample` in host/. Every answer is the Rust's own; every input is one that
-//! document 01 answers with 0, as `reading` tells.
+//! `cargo run --release --offline --bin sample` in host/ prints it; with `-- --write` it goes to crates/replay/stdin, and
+//! that file changes only when the whole list is made. Every answer is the Rust's own; every input is one that document
+//! 01 answers with 0, as `reading` tells.
 
+mod file;
+mod list;
 mod sets;
 
+use std::env;
+use std::io::{self, Write};
+use std::path::Path;
 use std::process::ExitCode;
 
+use list::List;
 use reading::{MODES, Random, Row, Shape, native_shapes};
 use superfamiconv::plain;
 
@@ -45,27 +52,59 @@ struct Case {
     rust: plain::Mode,
 }
 
+/// Where the program `replay` reads the list.
+const PLACE: &str = concat!(env!("CARGO_MANIFEST_DIR"), "/../../crates/replay/stdin");
+
+const USAGE: &str = "usage: sample [--write]";
+
 fn main() -> ExitCode {
+    let words: Vec<String> = env::args().skip(1).collect();
+    let told = match words.iter().map(String::as_str).collect::<Vec<_>>()[..] {
+        [] => made().and_then(|list| print(&list)),
+        ["--write"] => made().and_then(|list| write(&list)),
+        _ => Err(USAGE.to_owned()),
+    };
+    match told {
+        Ok(()) => ExitCode::SUCCESS,
+        Err(told) => {
+            eprintln!("{told}");
+            ExitCode::FAILURE
+        }
+    }
+}
+
+fn print(list: &List) -> Result<(), String> {
+    io::stdout().write_all(list.text().as_bytes()).map_err(|error| format!("the list cannot be printed: {error}"))
+}
+
+fn write(list: &List) -> Result<(), String> {
+    file::replace(Path::new(PLACE), list.text())?;
+    eprintln!("crates/replay/stdin has {} lines", list.text().lines().count());
+    Ok(())
+}
+
+/// The whole list, or why there is none.
+fn made() -> Result<List, String> {
     if !superfamiconv::PRESENT {
-        eprintln!("the fixed list {}", superfamiconv::ABSENT);
-        return ExitCode::FAILURE;
+        return Err(format!("the fixed list {}", superfamiconv::ABSENT));
     }
-    println!("{HEAD}");
+    let mut list = List::default();
+    list.line(HEAD);
     let mut random = Random::new(1);
-    for print in [print_colors, print_palettes, print_channels, print_entries, print_reads] {
+    for add in [add_colors, add_palettes, add_channels, add_entries, add_reads] {
         for (mode, row) in (0..).zip(&MODES) {
-            print(&Case { mode, row, rust: plain::mode(mode) }, &mut random);
+            add(&mut list, &Case { mode, row, rust: plain::mode(mode) }, &mut random);
         }
     }
-    for print in [print_tiles, print_pixels] {
+    for add in [add_tiles, add_pixels] {
         for shape in native_shapes().filter(|shape| shape.pixels() <= 256) {
-            print(shape, &mut random);
+            add(&mut list, shape, &mut random);
         }
     }
-    sets::print_runs(&mut random);
-    sets::print_reads(&mut random);
-    sets::print_numbers();
-    ExitCode::SUCCESS
+    sets::add_runs(&mut list, &mut random);
+    sets::add_reads(&mut list, &mut random);
+    sets::add_numbers(&mut list);
+    Ok(list)
 }
 
 fn hex(bytes: &[u8]) -> String {
@@ -86,61 +125,61 @@ fn some_colors(case: &Case, random: &mut Random) -> usize {
     if packs(case, count) { count } else { 4 }
 }
 
-fn print_colors(case: &Case, random: &mut Random) {
+fn add_colors(list: &mut List, case: &Case, random: &mut Random) {
     let top = case.row.top as u8;
     let corners = (0..8).flat_map(|corner| [corner & 1, corner >> 1 & 1, corner >> 2 & 1].map(|on| on * top));
     let corners: Vec<u8> = corners.collect::<Vec<u8>>().chunks(3).flat_map(|c| [c[0], c[1], c[2], 255]).collect();
     if packs(case, 0) {
-        print_packed(case, &[]);
-        print_packed(case, &corners);
+        add_packed(list, case, &[]);
+        add_packed(list, case, &corners);
     } else {
-        corners.chunks(16).for_each(|four| print_packed(case, four));
+        corners.chunks(16).for_each(|four| add_packed(list, case, four));
     }
     for _ in 0..14 {
         let count = some_colors(case, random);
-        print_packed(case, &random.colors(case.row.top, count));
+        add_packed(list, case, &random.colors(case.row.top, count));
     }
 }
 
-fn print_packed(case: &Case, rgba: &[u8]) {
+fn add_packed(list: &mut List, case: &Case, rgba: &[u8]) {
     let bytes = plain::pack_colors(case.rust, &plain::colors(rgba)).expect("the mode packs so many colours");
-    println!("colors {} {} {}", case.mode, hex(rgba), hex(&bytes));
+    list.line(&format!("colors {} {} {}", case.mode, hex(rgba), hex(&bytes)));
 }
 
-fn print_palettes(case: &Case, random: &mut Random) {
+fn add_palettes(list: &mut List, case: &Case, random: &mut Random) {
     let length = |colors: usize| reading::packed_length(case.mode, 4 * colors);
     let unpacks = |length: &usize| reading::unpacked_count(case.mode, *length).is_ok();
     let four = length(4).expect("every mode packs four colours");
     for bytes in [vec![0; four], vec![255; four]] {
-        print_unpacked(case, &bytes);
+        add_unpacked(list, case, &bytes);
     }
     if unpacks(&0) {
-        print_unpacked(case, &[]);
+        add_unpacked(list, case, &[]);
     }
     for _ in 0..14 {
         let count = some_colors(case, random);
         // unused bits are as random as the others
         let some = length(count).ok().filter(unpacks).unwrap_or(four);
-        print_unpacked(case, &random.bytes(some));
+        add_unpacked(list, case, &random.bytes(some));
     }
 }
 
-fn print_unpacked(case: &Case, bytes: &[u8]) {
+fn add_unpacked(list: &mut List, case: &Case, bytes: &[u8]) {
     let colors = plain::unpack_colors(case.rust, bytes).expect("the mode unpacks so many bytes");
-    println!("palette {} {} {}", case.mode, hex(bytes), hex(&plain::rgba(&colors)));
+    list.line(&format!("palette {} {} {}", case.mode, hex(bytes), hex(&plain::rgba(&colors))));
 }
 
-fn print_channels(case: &Case, random: &mut Random) {
+fn add_channels(list: &mut List, case: &Case, random: &mut Random) {
     let edges = [0, 1, 127, 128, 254, 255];
     let values = edges.into_iter().chain((0..12).map(|_| random.byte()));
     for value in values {
         for nearest in [false, true] {
             let result = plain::reduce_channel(case.rust, value, nearest);
-            println!("reduce {} {value} {} {result}", case.mode, u8::from(nearest));
+            list.line(&format!("reduce {} {value} {} {result}", case.mode, u8::from(nearest)));
         }
     }
     for component in 0..=case.row.top as u8 {
-        println!("scale {} {component} {}", case.mode, plain::scale_up(case.rust, component));
+        list.line(&format!("scale {} {component} {}", case.mode, plain::scale_up(case.rust, component)));
     }
 }
 
@@ -172,19 +211,19 @@ fn fields(entry: plain::Entry) -> String {
     format!("{tile} {palette} {} {} {}", u8::from(h), u8::from(v), u8::from(priority))
 }
 
-fn print_entries(case: &Case, random: &mut Random) {
+fn add_entries(list: &mut List, case: &Case, random: &mut Random) {
     if case.row.entry_bytes == 0 {
         return;
     }
     for entry in entries(case.row, random) {
         let (mode, fields) = (case.mode, fields(entry));
-        println!("entry {mode} {fields} {}", hex(&plain::pack_mapentry(case.rust, entry)));
-        println!("index {mode} {fields} {}", hex(&plain::get_tile_index(case.rust, entry)));
-        println!("attribute {mode} {fields} {}", plain::get_attribute(case.rust, entry));
+        list.line(&format!("entry {mode} {fields} {}", hex(&plain::pack_mapentry(case.rust, entry))));
+        list.line(&format!("index {mode} {fields} {}", hex(&plain::get_tile_index(case.rust, entry))));
+        list.line(&format!("attribute {mode} {fields} {}", plain::get_attribute(case.rust, entry)));
     }
 }
 
-fn print_reads(case: &Case, random: &mut Random) {
+fn add_reads(list: &mut List, case: &Case, random: &mut Random) {
     let size = case.row.entry_bytes;
     if size == 0 {
         return;
@@ -192,7 +231,7 @@ fn print_reads(case: &Case, random: &mut Random) {
     let bits = (0..8 * size).map(|bit| (1u32 << bit).to_le_bytes()[..size].to_vec());
     let words = bits.chain([vec![0; size], vec![255; size]]).collect::<Vec<_>>();
     for bytes in words.into_iter().chain((0..14).map(|_| random.bytes(size))) {
-        println!("read {} {} {}", case.mode, hex(&bytes), fields(plain::unpack_mapentry(case.rust, &bytes)));
+        list.line(&format!("read {} {} {}", case.mode, hex(&bytes), fields(plain::unpack_mapentry(case.rust, &bytes))));
     }
 }
 
@@ -225,16 +264,16 @@ fn shape_text(shape: Shape) -> String {
     format!("{mode} {depth} {width} {height}")
 }
 
-fn print_tiles(shape: Shape, random: &mut Random) {
+fn add_tiles(list: &mut List, shape: Shape, random: &mut Random) {
     let Shape { mode, depth, width, height } = shape;
     for pixels in tiles(shape.pixels(), depth, width > 8, random) {
         let bytes = plain::pack_tile(plain::mode(mode), depth, width, height, &pixels);
         let bytes = bytes.expect("the Rust packs a native tile");
-        println!("tile {} {} {}", shape_text(shape), hex(&pixels), hex(&bytes));
+        list.line(&format!("tile {} {} {}", shape_text(shape), hex(&pixels), hex(&bytes)));
     }
 }
 
-fn print_pixels(shape: Shape, random: &mut Random) {
+fn add_pixels(list: &mut List, shape: Shape, random: &mut Random) {
     let Shape { mode, depth, width, height } = shape;
     if depth == 1 {
         return;
@@ -242,6 +281,6 @@ fn print_pixels(shape: Shape, random: &mut Random) {
     for bytes in tiles(shape.bytes(), 8, width > 8, random) {
         let pixels = plain::unpack_tile(plain::mode(mode), depth, width, height, &bytes);
         let pixels = pixels.expect("the Rust unpacks a native tile");
-        println!("pixels {} {} {}", shape_text(shape), hex(&bytes), hex(&pixels));
+        list.line(&format!("pixels {} {} {}", shape_text(shape), hex(&bytes), hex(&pixels)));
     }
 }

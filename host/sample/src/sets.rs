@@ -3,6 +3,7 @@
 use reading::{MODES, Random, Shape, flipped, set_shapes};
 use superfamiconv::plain;
 
+use crate::list::List;
 use crate::{hex, shape_text};
 
 /// Tiles of a run by the pixels of one: enough for each change below, and lines that are not long.
@@ -61,7 +62,7 @@ fn run_tiles(shape: Shape, random: &mut Random) -> Vec<Vec<u8>> {
 }
 
 /// What the Rust answers of each tile: where it is before it is added, with its flip, and how many are stored then.
-fn print_run(shape: Shape, (flips, discarding): (bool, bool), random: &mut Random) {
+fn add_run(list: &mut List, shape: Shape, (flips, discarding): (bool, bool), random: &mut Random) {
     let Shape { mode, depth, width, height } = shape;
     let rust = plain::mode(mode);
     let mut set = plain::tileset(rust, depth, width, height, flips, discarding, 0);
@@ -76,22 +77,22 @@ fn print_run(shape: Shape, (flips, discarding): (bool, bool), random: &mut Rando
     let (flips, discarding) = (u8::from(flips), u8::from(discarding));
     let bytes = plain::to_native_data(&set).expect("the Rust writes a set");
     let (shape, tiles) = (shape_text(shape), hex(&tiles.concat()));
-    println!("set {shape} {flips} {discarding} {} {tiles} {}", hex(&answers), hex(&bytes));
+    list.line(&format!("set {shape} {flips} {discarding} {} {tiles} {}", hex(&answers), hex(&bytes)));
 }
 
 /// The place where nothing is found.
 const NOTHING: u8 = 0xff;
 
-pub fn print_runs(random: &mut Random) {
+pub fn add_runs(list: &mut List, random: &mut Random) {
     for shape in shapes() {
         for &settings in settings(shape) {
-            print_run(shape, settings, random);
+            add_run(list, shape, settings, random);
         }
     }
 }
 
 /// Random cells, read as a set: two tiles and, of those larger than a cell, one cell more.
-fn print_read(shape: Shape, random: &mut Random) {
+fn add_read(list: &mut List, shape: Shape, random: &mut Random) {
     let Shape { mode, depth, width, height } = shape;
     let (across, down, row) = (width / 8, height / 8, if mode == 0 { 16 } else { 1 });
     let second = plain::native_tile_index(plain::mode(mode), width, height, 1);
@@ -100,25 +101,25 @@ fn print_read(shape: Shape, random: &mut Random) {
     let set = plain::from_native_data(plain::mode(mode), depth, width, height, true, &bytes);
     let set = set.expect("the bytes are whole cells");
     let (stored, _) = plain::counts(&set);
-    println!("cells {} {} {stored} {}", shape_text(shape), hex(&bytes), hex(&plain::tile_pixels(&set)));
+    list.line(&format!("cells {} {} {stored} {}", shape_text(shape), hex(&bytes), hex(&plain::tile_pixels(&set))));
 }
 
-pub fn print_reads(random: &mut Random) {
+pub fn add_reads(list: &mut List, random: &mut Random) {
     let read = |shape: &Shape| shape.depth > 1 && MODES[shape.mode as usize].name != "pce_sprite";
-    shapes().filter(read).for_each(|shape| print_read(shape, random));
+    shapes().filter(read).for_each(|shape| add_read(list, shape, random));
 }
 
 /// Every size of snes and md, at the edges of rows of tiles and at the last tile.
-pub fn print_numbers() {
+pub fn add_numbers(list: &mut List) {
     let depth_2_or_4 = |shape: &Shape| (shape.mode == 0 && shape.depth == 2) || shape.mode == 6;
     for Shape { mode, width, height, .. } in set_shapes().filter(depth_2_or_4) {
         let rust = plain::mode(mode);
         for tile in [0, 1, 7, 8, 9, 65_535] {
             let cell = plain::native_tile_index(rust, width, height, tile);
-            println!("native {mode} {width} {height} {tile} {cell}");
+            list.line(&format!("native {mode} {width} {height} {tile} {cell}"));
             let tile = plain::logical_tile_index(rust, width, height, cell + 1);
             if tile <= 65_535 {
-                println!("logical {mode} {width} {height} {} {tile}", cell + 1);
+                list.line(&format!("logical {mode} {width} {height} {} {tile}", cell + 1));
             }
         }
     }

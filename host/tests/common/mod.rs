@@ -3,8 +3,15 @@
 pub mod pictures;
 pub mod sets;
 
+use std::io::Write;
+
 use reading::{Random, Shape};
 use rumchivoat::Refusal;
+
+/// Says a line also where the output of a test that passes is not shown.
+pub fn say(line: &str) {
+    writeln!(std::io::stderr(), "{line}").expect("standard error can be written");
+}
 
 /// A call's answer, with document 01's number where it is a refusal.
 pub fn told<T>(answer: Result<T, Refusal>) -> Result<T, u32> {

@@ -6,6 +6,7 @@ use std::process::{Command, Output};
 use reading::{Random, Settings};
 
 use super::common::pictures::{Kind, picture_modes, row_of};
+use super::common::say;
 use super::sheets::{Sheet, longest, marked};
 
 const SCRIPT: &str = concat!(env!("CARGO_MANIFEST_DIR"), "/program.sh");
@@ -76,7 +77,7 @@ fn the_program_writes_what_is_read() {
         let Output { status, stdout, stderr } = program(input);
         let said = String::from_utf8_lossy(&stderr);
         if status.code() == Some(ABSENT) {
-            return println!("the program, skipped: {}", said.trim_end());
+            return say(&format!("the built program, skipped: {}", said.trim_end()));
         }
         let case = || format!("sheet {turn}, {}", input[..input.len().min(120)].escape_ascii());
         // "answers on standard output and ends with status 0 also when it refuses"
