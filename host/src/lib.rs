@@ -93,6 +93,11 @@ pub use sheet::{LONGEST_TEXT, Ran, Text, run, run_to_vec};
 pub use tile::{TileSize, pack_tile, pack_tile_to_vec, unpack_tile, unpack_tile_to_vec};
 pub use tile_set::{SetSettings, TileSet};
 
+/// The README's example is compiled and run as well.
+#[cfg(doctest)]
+#[doc = include_str!("../README.md")]
+struct Readme;
+
 #[cfg(test)]
 mod tests {
     use super::*;

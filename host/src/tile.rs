@@ -28,6 +28,11 @@ impl TileSize {
     pub(crate) const fn pixels(self) -> usize {
         (self.width as usize).saturating_mul(self.height as usize)
     }
+
+    /// The bytes of a native tile of this size.
+    const fn bytes(self, depth: u32) -> usize {
+        self.pixels().saturating_mul(depth as usize) / 8
+    }
 }
 
 impl fmt::Display for TileSize {
@@ -173,7 +178,7 @@ const MOST_BYTES: usize = 1024;
 /// # Ok::<(), Refused>(())
 /// ```
 pub fn pack_tile_to_vec(mode: impl Into<u32>, depth: u32, size: TileSize, pixels: &[u8]) -> Result<Vec<u8>, Refused> {
-    let (mode, mut out) = (mode.into(), [0; MOST_BYTES]);
+    let (mode, mut out) = (mode.into(), vec![0; size.bytes(depth).min(MOST_BYTES)]);
     let written = pack_tile(mode, depth, size.width, size.height, pixels, &mut out).map_err(|refusal| {
         let cause = match refusal {
             Refusal::Length => Cause::Length { what: "pixel", needed: size.pixels(), given: pixels.len() },
@@ -182,7 +187,8 @@ pub fn pack_tile_to_vec(mode: impl Into<u32>, depth: u32, size: TileSize, pixels
         };
         Refused::new(refusal, cause)
     })?;
-    Ok(out.into_iter().take(written).collect())
+    out.truncate(written);
+    Ok(out)
 }
 
 /// Unpacks a tile as [`unpack_tile`] does, into a `Vec` of its pixels.
@@ -203,16 +209,14 @@ pub fn pack_tile_to_vec(mode: impl Into<u32>, depth: u32, size: TileSize, pixels
 /// # Ok::<(), Refused>(())
 /// ```
 pub fn unpack_tile_to_vec(mode: impl Into<u32>, depth: u32, size: TileSize, bytes: &[u8]) -> Result<Vec<u8>, Refused> {
-    let (mode, mut out) = (mode.into(), [0; MOST_PIXELS]);
+    let (mode, mut out) = (mode.into(), vec![0; size.pixels().min(MOST_PIXELS)]);
     let written = unpack_tile(mode, depth, size.width, size.height, bytes, &mut out).map_err(|refusal| {
         let cause = match refusal {
-            Refusal::Length => {
-                let needed = size.pixels().saturating_mul(depth as usize) / 8;
-                Cause::Length { what: "byte", needed, given: bytes.len() }
-            }
+            Refusal::Length => Cause::Length { what: "byte", needed: size.bytes(depth), given: bytes.len() },
             _ => Cause::of_tiles(refusal, mode, depth, size),
         };
         Refused::new(refusal, cause)
     })?;
-    Ok(out.into_iter().take(written).collect())
+    out.truncate(written);
+    Ok(out)
 }

@@ -11,9 +11,7 @@ mod sets;
 #[path = "comparison/tiles.rs"]
 mod tiles;
 
-use std::io::Write;
-
-use common::{assert_writes, told, writes};
+use common::{assert_writes, say, told, writes};
 use reading::{MODES, Random, Row, Shape};
 use rumchivoat::{Entry, Mode, Refusal, Rounding};
 use superfamiconv::plain;

@@ -98,8 +98,11 @@ fn tile_shapes() -> Vec<(u32, u32, TileSize)> {
     shapes.map(|(mode, depth)| (mode.number(), depth, native(mode))).collect()
 }
 
+/// A call for a mode, depth and size, with a buffer; whether it was done.
+type TileCall = Box<dyn FnMut(u32, u32, TileSize, &mut [u8]) -> bool + Send>;
+
 fn tiles() -> Vec<Call> {
-    let over_shapes = |name, done, mut each: Box<dyn FnMut(u32, u32, TileSize, &mut [u8]) -> bool + Send>| {
+    let over_shapes = |name, done, mut each: TileCall| {
         let (shapes, mut out) = (tile_shapes(), vec![0; 2048]);
         call(name, stack::OTHERS, done, move || {
             shapes.iter().all(|&(mode, depth, size)| each(mode, depth, size, &mut out))
@@ -323,8 +326,8 @@ fn the_stated_figures_are_what_the_calls_take() {
 
 #[test]
 fn every_call_runs_on_a_thread_with_the_stated_stack() {
-    for Call { name, stated, mut call, done } in calls() {
-        let thread = thread::Builder::new().stack_size(stated + THREAD_START).spawn(move || call());
+    for Call { name, stated, call, done } in calls() {
+        let thread = thread::Builder::new().stack_size(stated + THREAD_START).spawn(call);
         let answer = thread.expect("a thread can be started").join().expect("the call ends");
         assert_eq!(answer, done, "{name}");
     }
