@@ -318,7 +318,7 @@ impl Set {
 
     /// The cells of the set's bytes. But for 8x8 and pce_sprite they fill whole rows, R = 16 of snes and 1 of others.
     fn cells(&self) -> usize {
-        let (across, down) = (self.width as usize / 8, self.height as usize / 8);
+        let (across, down) = ((self.width as usize / 8).max(1), self.height as usize / 8);
         let stored = self.stored as usize;
         if self.mode == Mode::PceSprite.number() || self.size() == TileSize::CELL {
             return stored * across * down;

@@ -332,9 +332,10 @@ impl<S: AsRef<[u8]> + AsMut<[u8]>> TileSet<S> {
         self.set.room(self.store.as_ref().len())
     }
 
-    /// The settings and the state.
-    pub fn set(&self) -> Set {
-        self.set
+    /// What the set was made by. A set that was read has no limit and discards.
+    pub fn settings(&self) -> SetSettings {
+        let Set { mode, depth, flips, discarding, limit, .. } = self.set;
+        SetSettings { mode, depth, size: self.set.size(), flips, discarding, limit }
     }
 
     /// The set and its store, apart. The plain calls of [`Set`] take them; no call makes a `TileSet` of them again.

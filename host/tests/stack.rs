@@ -15,7 +15,7 @@ use rumchivoat::{
 /// system may give more than was asked for: glibc no less than 16 KiB on x86-64, and 128 KiB on aarch64.
 const THREAD_START: usize = 32 * 1024;
 
-/// How far `stack` may be above what is measured: a figure that is no longer true is to be mended.
+/// How far `stack` may be above what is measured: a figure that is too large is to be mended as well.
 const SLACK: usize = 16 * 1024;
 
 /// A call with its inputs, which are not on the stack.

@@ -37,7 +37,7 @@ fn same_calls<S: AsRef<[u8]> + AsMut<[u8]>>(settings: SetSettings, mut tiles: Ti
         assert_eq!(tiles.look_up(&pixels).map_err(Refusal::from), set.look_up(&store, &pixels));
         assert_eq!(tiles.add(&pixels).map_err(Refusal::from), set.add(&mut store, &pixels));
         assert_eq!(tiles.add(&pixels[1..]).map_err(Refusal::from), Err(Refusal::Length));
-        assert_eq!(tiles.set(), set);
+        assert_eq!((tiles.settings(), tiles.len(), tiles.discarded()), (settings, set.stored as usize, set.discarded));
         if number == 39 {
             same_bytes(&tiles, set, &store);
             assert_eq!((tiles.reset(), set.reset()), (Ok(()), Ok(())));
@@ -95,8 +95,9 @@ fn a_set_is_read_as_it_was_written() {
         }
         let bytes = tiles.write_to_vec().unwrap();
         let read = TileSet::read(mode, depth, size, flips, &bytes, vec![0; 64 * bytes.len()]).unwrap();
-        let Set { discarding, limit, stored, discarded, .. } = read.set();
-        assert_eq!((discarding, limit, stored as usize >= tiles.len(), discarded), (true, 0, true, 0));
+        let expected = SetSettings::new(mode, depth, size).discarding();
+        assert_eq!(read.settings(), if flips { expected.flips() } else { expected });
+        assert!(read.len() >= tiles.len() && read.discarded() == 0);
         for number in 0..3 {
             assert_eq!(read.tile(Logical(number)), tiles.tile(Logical(number)));
         }
