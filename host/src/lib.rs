@@ -49,8 +49,8 @@
 //!
 //! A call works on what it is lent and on its own stack: it keeps nothing between calls, waits for nothing and allocates
 //! nothing (the calls that give a `Vec` allocate it). So calls may run in any number of threads at once, and every type
-//! here is `Send` and `Sync`. [`stack`] says how much stack the calls take: two of them take more than a small thread
-//! has.
+//! here is `Send` and `Sync`. [`stack`] says how much stack the calls take: [`stack::CONVERT`] bytes suffice for a
+//! conversion, [`stack::RUN`] for the program on slices, [`stack::OTHERS`] for any other call.
 
 #![cfg_attr(
     not(test),

@@ -448,7 +448,8 @@ pub fn convert(settings: Settings, pixels: &[u8], tiles: &mut [u8], map: &mut [u
 }
 
 /// Draws a map's tiles: 64 x columns x rows pixels, a byte each, row by row over the whole picture. Answers their number.
-/// What was converted comes back, each pixel cut to its low depth bits.
+/// What was converted comes back, each pixel cut to its low depth bits. [`stack::OTHERS`](crate::stack::OTHERS) bytes of
+/// stack suffice for the call.
 ///
 /// # Errors
 ///

@@ -58,6 +58,11 @@ pub enum Cause {
         /// The size given.
         size: MapSize,
     },
+    /// A tile number is above 65,535, or that of the tile that a cell belongs to.
+    TileNumber {
+        /// The number given, of a tile or a cell.
+        number: u32,
+    },
     /// The mode has no flips.
     Flips {
         /// The mode.
@@ -196,6 +201,7 @@ impl Cause {
             Cause::Depth { mode, depth } => write!(f, "{mode} has {}, not {depth}", Depths(mode)),
             Cause::TileSize { mode, size } => write!(f, "{mode} has no tiles of {size}"),
             Cause::MapSize { size } => write!(f, "columns and rows are 1 to 64 each, not {size}"),
+            Cause::TileNumber { number } => write!(f, "number {number} leads to a tile above 65,535"),
             Cause::Flips { mode } => write!(f, "{mode} has no flips"),
             Cause::Priority { mode } => write!(f, "{mode} has no priority"),
             Cause::Tile { mode, tile } => {

@@ -1,7 +1,7 @@
 //! A set that keeps its store.
 
 use crate::set::row_cells;
-use crate::{Cause, Logical, Place, Refusal, Refused, Set, TileSize};
+use crate::{Cause, Logical, Native, Place, Refusal, Refused, Set, TileSize, logical_number, native_number};
 
 /// What a set is made by.
 ///
@@ -82,6 +82,50 @@ impl SetSettings {
         Ok(tiles as usize * self.size.pixels())
     }
 
+    /// The cell at which a tile of the set's bytes starts, as [`native_number`] has it. At 8x8 the two numbers agree.
+    ///
+    /// # Errors
+    ///
+    /// The lowest first: [`Refusal::Mode`], [`Refusal::PceSprite`], [`Refusal::Size`], the last also for a tile number
+    /// above 65,535, with their causes. The depth has no part in it.
+    ///
+    /// # Example
+    ///
+    /// ```
+    /// use rumchivoat::{Logical, Mode, Native, Refused, SetSettings, TileSize};
+    ///
+    /// let settings = SetSettings::new(Mode::Snes, 4, TileSize { width: 16, height: 16 });
+    /// // (l)
+    /// assert_eq!(settings.native_number(Logical(8))?, Native(32));
+    /// assert_eq!(settings.logical_number(Native(33))?, Logical(8));
+    /// let refused = settings.native_number(Logical(65_536)).unwrap_err();
+    /// assert_eq!(refused.to_string(), "refused 4: number 65536 leads to a tile above 65,535");
+    /// # Ok::<(), Refused>(())
+    /// ```
+    pub fn native_number(&self, tile: Logical) -> Result<Native, Refused> {
+        native_number(self.mode, self.size.width, self.size.height, tile)
+            .map_err(|refusal| Refused::new(refusal, self.why_no_number(refusal, tile.0)))
+    }
+
+    /// The tile that a cell of the set's bytes belongs to, as [`logical_number`] has it.
+    ///
+    /// # Errors
+    ///
+    /// As [`native_number`](SetSettings::native_number), where the tile would be above 65,535.
+    pub fn logical_number(&self, cell: Native) -> Result<Logical, Refused> {
+        logical_number(self.mode, self.size.width, self.size.height, cell)
+            .map_err(|refusal| Refused::new(refusal, self.why_no_number(refusal, cell.0)))
+    }
+
+    /// Where the size is one, the number is refused.
+    fn why_no_number(&self, refusal: Refusal, number: u32) -> Cause {
+        let first = native_number(self.mode, self.size.width, self.size.height, Logical(0));
+        match (refusal, first) {
+            (Refusal::Size, Ok(_)) => Cause::TileNumber { number },
+            _ => Cause::of_tiles(refusal, self.mode, self.depth, self.size),
+        }
+    }
+
     /// A set of no tiles; 1, 3 and 4 where there is none.
     fn set(&self) -> Result<Set, Refused> {
         let cause = |refusal| Cause::of_tiles(refusal, self.mode, self.depth, self.size);
@@ -116,6 +160,20 @@ impl SetSettings {
 /// let refused = set.add(&[3; 64]).unwrap_err();
 /// assert_eq!(refused.to_string(), "refused 12: there is room for 2 tiles and no more");
 /// assert_eq!(set.write_to_vec()?.len(), 32);
+/// # Ok::<(), Refused>(())
+/// ```
+///
+/// Two jobs with one store do not compile:
+///
+/// ```compile_fail,E0499
+/// use rumchivoat::{Mode, Refused, SetSettings, TileSet, TileSize};
+///
+/// let settings = SetSettings::new(Mode::Snes, 2, TileSize::CELL);
+/// let mut store = vec![0; 128];
+/// let mut one = TileSet::new(settings, &mut store[..])?;
+/// let mut other = TileSet::new(settings, &mut store[..])?;
+/// one.add(&[1; 64])?;
+/// other.add(&[2; 64])?;
 /// # Ok::<(), Refused>(())
 /// ```
 #[derive(Debug, Clone)]

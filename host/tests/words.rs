@@ -1,8 +1,8 @@
 //! The words of a refusal tell the values, need no paper at hand, and belong to the number that the archive gave.
 
 use rumchivoat::{
-    Cause, Entry, MapSize, Mode, Refusal, Refused, SetSettings, Settings, TileSet, TileSize, pack_colors_to_vec,
-    pack_tile_to_vec, unpack_colors_to_vec, unpack_tile_to_vec,
+    Cause, Entry, Logical, MapSize, Mode, Native, Refusal, Refused, SetSettings, Settings, TileSet, TileSize,
+    pack_colors_to_vec, pack_tile_to_vec, unpack_colors_to_vec, unpack_tile_to_vec,
 };
 
 /// The words of a call that is refused.
@@ -142,6 +142,18 @@ fn sets() {
     };
     assert_eq!(read(Mode::Snes, &[0; 17]), "refused 7: 17 bytes are no multiple of 16");
     assert_eq!(read(Mode::Snes, &[0; 32]), "refused 11: the store needs 128 bytes and has 64");
+}
+
+#[test]
+fn tile_numbers() {
+    let large = SetSettings::new(Mode::Snes, 2, TileSize { width: 16, height: 16 });
+    assert_eq!(words(large.native_number(Logical(65_536))), "refused 4: number 65536 leads to a tile above 65,535");
+    assert_eq!(words(large.logical_number(Native(262_144))), "refused 4: number 262144 leads to a tile above 65,535");
+    let none = SetSettings::new(Mode::Md, 4, TileSize { width: 16, height: 16 });
+    assert_eq!(words(none.native_number(Logical(65_536))), "refused 4: md has no tiles of 16x16");
+    assert_eq!(words(none.logical_number(Native(0))), "refused 4: md has no tiles of 16x16");
+    let sprite = SetSettings::new(Mode::PceSprite, 4, TileSize { width: 16, height: 16 });
+    assert_eq!(sprite.native_number(Logical(0)).map_err(Refusal::from), Err(Refusal::PceSprite));
 }
 
 /// A set's store that shrinks behind its back is told, and not read beyond its end.

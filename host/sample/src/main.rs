@@ -86,7 +86,7 @@ fn write(list: &List) -> Result<(), String> {
 /// The whole list, or why there is none.
 fn made() -> Result<List, String> {
     if !superfamiconv::PRESENT {
-        return Err(format!("the fixed list {}", superfamiconv::ABSENT));
+        return Err(format!("the fixed list is {}", superfamiconv::ABSENT));
     }
     let mut list = List::default();
     list.line(HEAD);

@@ -1,0 +1,46 @@
+//! Calls in many threads at once answer as they do alone: nothing is kept between them.
+
+use std::thread;
+
+use rumchivoat::{Converted, MapSize, Mode, Settings, run_to_vec};
+
+const THREADS: usize = 8;
+const TURNS: usize = 20;
+
+/// A picture whose tiles depend on the number, some of them more than once.
+fn pixels(number: usize, settings: Settings) -> Vec<u8> {
+    let length = settings.pixel_len().expect("the settings are good");
+    (0..length).map(|place| (place / 64 * (number + 1) % 7 + place % (number + 3) / 2) as u8).collect()
+}
+
+fn settings(number: usize) -> Settings {
+    let mode = [Mode::Snes, Mode::Md, Mode::Gba, Mode::Sms][number % 4];
+    Settings::new(mode, 4, MapSize { columns: 13, rows: 11 }).flips().discarding()
+}
+
+fn sheet(number: usize, settings: Settings) -> Vec<u8> {
+    let name = Mode::try_from(settings.mode).expect("the mode is one").name();
+    let lines = format!("mode={name}\ndepth=4\nflip=1\ndiscard=1\nlimit=0\npalette=0\ncolumns=13\nrows=11\n");
+    [lines.as_bytes(), &pixels(number, settings)].concat()
+}
+
+/// The picture converted and redrawn, and the program's text.
+fn work(number: usize) -> (Converted, Vec<u8>, Vec<u8>) {
+    let settings = settings(number);
+    let converted = settings.convert_to_vec(&pixels(number, settings)).expect("the picture has room");
+    let redrawn = settings.redraw_to_vec(&converted.tiles, &converted.map).expect("the map is the picture's");
+    let text = run_to_vec(&sheet(number, settings)).expect("every text fits");
+    assert_eq!(text.told, None);
+    (converted, redrawn, text.bytes)
+}
+
+#[test]
+fn threads_do_not_meet() {
+    let alone: Vec<_> = (0..THREADS).map(work).collect();
+    assert!(alone.iter().all(|(converted, ..)| converted.picture.discarded > 0));
+    thread::scope(|scope| {
+        for (number, expected) in alone.iter().enumerate() {
+            scope.spawn(move || (0..TURNS).for_each(|_| assert!(work(number) == *expected, "picture {number}")));
+        }
+    });
+}
