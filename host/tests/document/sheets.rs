@@ -544,6 +544,7 @@ fn the_longest_text() {
         let ran = Ran { written: out.len(), told: text.told };
         assert_eq!(rumchivoat::run(&input, &mut out), Ok(ran));
         assert_eq!(out, text.bytes);
+        assert_eq!(rumchivoat::run(&input, &mut out[1..]), Err(Refusal::Output));
         longest_text = out.len().max(longest_text);
     }
     assert_eq!(longest_text, rumchivoat::run_to_vec(&longest().bytes()).expect("every text fits").bytes.len());
