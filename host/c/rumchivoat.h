@@ -95,8 +95,8 @@
 
 /* ---- the most stack that a call takes, in bytes */
 
-#define RUMCHIVOAT_STACK_CONVERT 311296 /* rumchivoat_convert */
-#define RUMCHIVOAT_STACK_RUN 450560     /* rumchivoat_run */
+#define RUMCHIVOAT_STACK_CONVERT 311296 /* rumchivoat_convert; _OTHERS where its settings or lengths refuse it */
+#define RUMCHIVOAT_STACK_RUN 446464     /* rumchivoat_run */
 #define RUMCHIVOAT_STACK_OTHERS 8192    /* each of the others */
 
 #ifdef __cplusplus

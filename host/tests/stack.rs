@@ -42,24 +42,25 @@ fn settings(mode: Mode, depth: u32, side: u32) -> Settings {
     if mode.has_flips() { settings.flips() } else { settings }
 }
 
-/// The largest pictures, refused ones, and one tile.
+/// The largest pictures, one tile, and refused ones: what its settings refuse takes no more than another call.
 fn conversions() -> Vec<Call> {
+    let no_mode = Settings::new(16u32, 4, MapSize { columns: 1, rows: 1 });
     let cases = [
-        ("convert, pce 64x64", settings(Mode::Pce, 4, 64), true),
-        ("convert, snes 32x32 with flips", settings(Mode::Snes, 8, 32), true),
-        ("convert, gb 1x1", settings(Mode::Gb, 1, 1), true),
-        ("convert, no room", settings(Mode::Snes, 8, 32).limit(1023), false),
-        ("convert, no such palette", settings(Mode::Snes, 8, 32).palette(8), false),
-        ("convert, no such mode", Settings::new(16u32, 4, MapSize { columns: 1, rows: 1 }), false),
+        ("convert, pce 64x64", stack::CONVERT, settings(Mode::Pce, 4, 64), true),
+        ("convert, snes 32x32 with flips", stack::CONVERT, settings(Mode::Snes, 8, 32), true),
+        ("convert, gb 1x1", stack::CONVERT, settings(Mode::Gb, 1, 1), true),
+        ("convert, no room", stack::CONVERT, settings(Mode::Snes, 8, 32).limit(1023), false),
+        ("convert, no such palette", stack::OTHERS, settings(Mode::Snes, 8, 32).palette(8), false),
+        ("convert, no such mode", stack::OTHERS, no_mode, false),
     ];
     let mut calls = Vec::new();
-    for (name, settings, done) in cases {
+    for (name, stated, settings, done) in cases {
         let pixels = different_pixels(64 * (settings.columns * settings.rows) as usize);
         let (mut tiles, mut map) = (vec![0; 4096 * 64], vec![0; 2 * 4096]);
         let given = pixels.clone();
-        calls.push(call(name, stack::CONVERT, done, move || convert(settings, &given, &mut tiles, &mut map).is_ok()));
+        calls.push(call(name, stated, done, move || convert(settings, &given, &mut tiles, &mut map).is_ok()));
         let to_vec = move || settings.convert_to_vec(&pixels).is_ok();
-        calls.push(call("  the same to a vec", stack::CONVERT, done, to_vec));
+        calls.push(call("  the same to a vec", stated, done, to_vec));
     }
     calls
 }

@@ -26,7 +26,8 @@ fn runs(page: &str) -> Vec<Run> {
 
 fn run(block: &str) -> Option<Run> {
     let (processor, _) = block.lines().next()?.split_once(": ")?;
-    let timed: Vec<Timed> = block.lines().take_while(|line| !line.starts_with("least ratio")).filter_map(timed).collect();
+    let timed: Vec<Timed> =
+        block.lines().take_while(|line| !line.starts_with("least ratio")).filter_map(timed).collect();
     (!timed.is_empty()).then(|| Run { processor: processor.to_string(), timed })
 }
 
