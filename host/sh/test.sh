@@ -2,7 +2,7 @@
 # sh host/sh/test.sh
 #
 # Tries the scripts: convert.sh's output, statuses and words, the README's way to compare with a master, what is said
-# where a tool is missing, and that what is made is not made again. It proves nothing; run `rt check convert` first.
+# where a tool is missing, and that what is made is not made again. It proves what is not proved yet.
 # Status 1 where anything differs.
 set -u
 cd "$(dirname "$0")/../.." || exit 1
@@ -61,6 +61,9 @@ refused() { # NUMBER WORDS
 }
 
 # ---- what is converted
+
+# The first run may have rt say what it proves; the others say nothing.
+sh convert.sh examples/window.sheet >/dev/null || fail 1 "convert.sh did not convert examples/window.sheet"
 
 converted() {
     for example in examples/*.sheet; do
@@ -316,15 +319,34 @@ modes() {
     [ "$(told_modes)" = "$(cut -d ';' -f 1,2,5,6,7 "$work/defined")" ] || differs "refused.awk has other modes"
 }
 
+# ---- an archive that the crate was not written for
+
+# The safe crate is not built over an archive with another interface, or with none.
+interfaces() {
+    for tool in cargo cc ar; do
+        is_there "$tool" || { skipped "archives of other interfaces: $tool is missing"; return; }
+    done
+    over_archive "unsigned rumchivoat_interface(void) { return 2; }" "has interface 2, and this crate is written for 1"
+    over_archive "unsigned other(void) { return 1; }" "is from before there was an interface number"
+}
+
+over_archive() { # TEXT WORDS
+    tried=$((tried + 1))
+    rm -rf "$work/archive"
+    mkdir "$work/archive"
+    printf '%s\n' "$1" >"$work/archive/other.c"
+    cc -c "$work/archive/other.c" -o "$work/archive/other.o" && ar rcs "$work/archive/librumchivoat.a" "$work/archive/other.o"
+    run env "RUMCHIVOAT_ARCHIVE=$work/archive" "CARGO_TARGET_DIR=$work/target" \
+        cargo check --offline --manifest-path host/Cargo.toml -p rumchivoat
+    [ "$ended" -ne 0 ] || differs "the crate was built over an archive that $2"
+    grep -q "$2" "$work/err" || differs "over an archive that $2, cargo said: $(cat "$work/err")"
+}
+
 # ---- the README
 
-# The stack figures are the header's, and the commands stand there as they are tried above.
+# The commands stand there as they are tried above.
 readme() {
-    tried=$((tried + 4))
-    for call in CONVERT RUN OTHERS; do
-        bytes=$(sed -n "s/^#define RUMCHIVOAT_STACK_$call \([0-9]*\).*/\1/p" host/c/rumchivoat.h)
-        grep -q " $((bytes / 1024)) KiB" README.md || differs "README.md does not have the stack of $call, $bytes bytes"
-    done
+    tried=$((tried + 1))
     two_steps='sh convert.sh examples/window.sheet >window.out && sha256sum --check examples/window.sha256 <window.out'
     grep -qF "$two_steps" README.md || differs "README.md compares with a master in another way"
 }
@@ -340,6 +362,7 @@ missing
 helps
 marks
 modes
+interfaces
 readme
 [ "$wrong" -eq 0 ] || fail 1 "$wrong of $tried differ"
 echo "test.sh: the scripts: $tried tries, as they should be"

@@ -41,9 +41,10 @@
 //! # The archive's interface
 //!
 //! Crate and archive are built from one checkout. The archive gives the number of its interface, and the crate is written
-//! for [`INTERFACE`]. An archive from before there was a number is refused when the crate is built. Another number is
-//! told by [`check_interface`], which a station calls once when it starts; no other call looks at it, so that none pays
-//! for it. A refusal that the crate does not know is [`Refusal::Unknown`]: no answer makes the crate panic.
+//! for [`INTERFACE`]. An archive with another number, or from before there was one, is refused when the crate is built,
+//! so that no call has to look. [`check_interface`] asks once more at run time: a station calls it when it starts, where
+//! the archive is not linked by the crate's own build. A refusal that the crate does not know is [`Refusal::Unknown`]: no
+//! answer makes the crate panic.
 //!
 //! # Threads and stack
 //!
