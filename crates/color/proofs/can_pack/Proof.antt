@@ -1,5 +1,4 @@
 -- The lengths that packing takes.
--- Assumes nothing.
 use Rattle.color.proofs.can_pack.Statement.{statement}
 use Rattle.color.proofs.can_pack.Tie as tie
 

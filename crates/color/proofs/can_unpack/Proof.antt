@@ -1,5 +1,4 @@
 -- The lengths that unpacking takes.
--- Assumes nothing.
 use borrow.Author.Needs.{needs}
 use Rattle.color.proofs.can_unpack.Statement.{statement}
 use Rattle.color.proofs.can_unpack.Tie as tie

@@ -1,5 +1,4 @@
 -- The colours that unpacking writes.
--- Assumes nothing.
 use borrow.Author.Needs.{needs}
 use Rattle.color.proofs.color_count.Statement.{statement}
 use Rattle.color.proofs.color_count.Tie as tie

@@ -1,5 +1,4 @@
 -- The word of one colour; a red that is not above the top leaves a gray.
--- Assumes nothing.
 use mathlib.Core.Path.{_∙_}
 use native.Mathlib.Omega.{arith}
 use denote.Ref.{now}

@@ -1,5 +1,4 @@
 -- The three tests, one after the other, are document 01's.
--- Assumes nothing.
 use borrow.Author.Tests.{lt-ltb, le-ltb}
 use borrow.Author.Needs.{needs}
 use Rattle.color.proofs.is_above.Statement.{statement}

@@ -1,5 +1,4 @@
 -- A refusal leaves the bytes as they were; otherwise they begin with the packed colours.
--- Assumes nothing.
 use mathlib.Core.Path.{_≡_, refl, sym, ap, _∙_}
 use Prim.Native.Nat.{ℕ, _*_, _/_, _≤_}
 use native.Mathlib.Nat.{suc-ne-zero}

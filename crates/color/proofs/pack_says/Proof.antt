@@ -1,5 +1,4 @@
 -- The checks 7, 9 and 11, in this order.
--- Assumes nothing.
 use borrow.Author.Tests.{lt-ltb, le-ltb, not-true, not-false}
 use Rattle.color.specs.Inner.{placedPackSays}
 use borrow.Author.Needs.{needs}

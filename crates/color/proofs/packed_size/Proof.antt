@@ -1,5 +1,4 @@
 -- The bytes that packing writes: no more than half the colours' bytes.
--- Assumes nothing.
 use Prim.Native.Nat.{_/_}
 use native.Mathlib.Nat.{mul-le-mul-left}
 use native.Mathlib.Omega.{arith}

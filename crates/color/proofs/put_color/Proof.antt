@@ -1,5 +1,4 @@
 -- Four stores, as one.
--- Assumes nothing.
 use native.Mathlib.Omega.{arith}
 use lib.ListN.{length-set}
 use denote.Ref.{now}

@@ -1,5 +1,4 @@
 -- The colour of a word, gray or not.
--- Assumes nothing.
 use mathlib.Core.Path.{_∙_}
 use borrow.Author.Needs.{needs}
 use Rattle.color.proofs.put_color_from.Statement.{statement}

@@ -1,6 +1,7 @@
 -- Four grays, one after the other.
--- Assumes nothing.
 use mathlib.Core.Path.{refl, _∙_}
+use mathlib.Core.List.{List}
+use Prim.Native.Nat.{ℕ}
 use denote.Ref.{now}
 use Rattle.color.specs.Inner.{grayAt}
 use Rattle.color.proofs.Unpacking.{put-colors}
@@ -10,10 +11,16 @@ use Rattle.color.proofs.put_four.Tie as tie
 
 returns : tie.Need-returns
 returns c =
-    let a = c .before .before .before .before .before .before .before .before .before .before .before .before .before .before .before .before .before .args in
-    c .before .before .put-gray4 .ensures
-    ∙ rw (c .before .before .before .before .before .before .put-gray3 .ensures, c .before .before .before .before .before .before .before .before .before .before .put-gray2 .ensures, c .before .before .before .before .before .before .before .before .before .before .before .before .before .before .put-gray .ensures)
-    (put-colors (now (a .out)) (grayAt (a .places) (a .word) (a .places .first)) (grayAt (a .places) (a .word) (a .places .second)) (grayAt (a .places) (a .word) (a .places .third)) (grayAt (a .places) (a .word) (a .places .fourth)) refl refl refl refl (c .before .before .before .before .before .before .before .before .before .before .before .before .before .before .before .before .before .pre .1))
+    let four = c .before .before in
+    let three = four .before .before .before .before in
+    let two = three .before .before .before .before in
+    let one = two .before .before .before .before in
+    let start = one .before .before .before in
+    let a = start .args in
+    let gray : ℕ → List ℕ = grayAt (a .places) (a .word) in
+    four .put-gray4 .ensures
+    ∙ rw (three .put-gray3 .ensures, two .put-gray2 .ensures, one .put-gray .ensures)
+    (put-colors (now (a .out)) (gray (a .places .first)) (gray (a .places .second)) (gray (a .places .third)) (gray (a .places .fourth)) refl refl refl refl (start .pre .1))
 
 pub put-four-spec : {M : Type 1} → statement M
 put-four-spec =

@@ -1,5 +1,4 @@
 -- The gray at a place.
--- Assumes nothing.
 use mathlib.Core.Path.{_∙_}
 use borrow.Author.Needs.{needs}
 use Rattle.color.proofs.put_gray.Statement.{statement}

@@ -1,5 +1,4 @@
 -- The reduced channel, where there is such a mode.
--- Assumes nothing.
 use mathlib.Core.Path.{_∙_}
 use borrow.Author.Tests.{lt-ltb, le-ltb}
 use borrow.Author.Needs.{needs}

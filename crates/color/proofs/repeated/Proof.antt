@@ -1,5 +1,4 @@
 -- The bits of a component, added up at their places, stay small.
--- Assumes nothing.
 use Prim.Native.Nat.{_+_, _-_}
 use native.Mathlib.Omega.{arith}
 use lib.Pow.{shr-le}

@@ -1,5 +1,4 @@
 -- The repeated bits of a component, where there is such a mode and such a component.
--- Assumes nothing.
 use mathlib.Core.Path.{_∙_}
 use Prim.Native.Nat.{_<_, _≤_}
 use native.Mathlib.Omega.{arith}

@@ -1,5 +1,4 @@
 -- The checks 7 and 11; that four bytes a colour have room is tested by division.
--- Assumes nothing.
 use Prim.Native.Nat.{_*_, _<_, _≤_}
 use native.Mathlib.Omega.{arith}
 use borrow.Author.Tests.{lt-ltb, le-ltb, not-true, not-false}

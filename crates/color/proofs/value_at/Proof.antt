@@ -1,5 +1,4 @@
 -- The bits at a place, below 2 to their number.
--- Assumes nothing.
 use mathlib.Core.Path.{_∙_}
 use native.Mathlib.Nat.{mod-lt}
 use lib.Pow.{pow-pos}

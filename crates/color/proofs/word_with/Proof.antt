@@ -1,5 +1,4 @@
 -- Four bytes moved up by sixteen places at most stay below 2 ^ 32, and so does their sum.
--- Assumes nothing.
 use Rattle.words.proofs.Bits.{up-under}
 use native.Mathlib.Omega.{arith}
 use borrow.Author.Needs.{needs}

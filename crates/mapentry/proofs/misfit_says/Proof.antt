@@ -1,5 +1,4 @@
--- `mapentry::misfit_says` meets its contract: each field that does not fit has its number.
--- Assumes nothing.
+-- Each field that does not fit has its number.
 use borrow.Author.Needs.{needs}
 use Rattle.mapentry.proofs.misfit_says.Statement.{statement}
 use Rattle.mapentry.proofs.misfit_says.Tie as tie

@@ -14,18 +14,22 @@ mul-size c = omega (arith, c .before .before .before .before .pre .deep)
 
 mul-t20 : tie.Need-mul-t20
 mul-t20 c =
-    let s = c .before .before .before .before .before .before .before .before .before .before .before .before .before in
-    let size = c .before .before .before .before .before .before .before .before .mapentry-size in
+    let sized = c .before .before .before .before .before .before .before .before in
+    let s = sized .before .before .before .before .before in
+    let size = sized .mapentry-size in
     let two : size .result ≤ 2 = omega (arith, size .ensures, small (s .args .settings .mode) (s .pre .asTiles .mode) .entry) in
     omega (arith, mul-le-mul {n₁ = places (s .args .settings)} {m₁ = size .result} {n₂ = 4096} {m₂ = 2} (s .pre .few) two)
 
 returns : tie.Need-returns
 returns c =
-    let z = c .before .before .before .before .before .before .before .before .before .before .before .before .before .args .settings in
-    let n = c .before .before .before .before .before .before .before .before .before .before .before .before .before .args .count in
+    let tiled = c .before .before .before .before .before .before in
+    let sized = tiled .before .before in
+    let s = sized .before .before .before .before .before in
+    let z = s .args .settings in
+    let n = s .args .count in
     record {
-      answer = ap (λ (i : ℕ). pictured 0 n (places z - n) (n * (z .depth * 8)) (places z * i)) (c .before .before .before .before .before .before .before .before .mapentry-size .ensures);
-      lent = c .before .before .before .before .before .before .put-tiles .ensures;
+      answer = ap (λ (i : ℕ). pictured 0 n (places z - n) (n * (z .depth * 8)) (places z * i)) (sized .mapentry-size .ensures);
+      lent = tiled .put-tiles .ensures;
       alsoLent = c .before .before .put-map .ensures;
     }
 

@@ -1,5 +1,4 @@
 -- A front is no longer than the whole.
--- Assumes nothing.
 use native.Mathlib.Omega.{arith}
 use lib.ListN.{length-take}
 use borrow.Author.Needs.{needs}
