@@ -1,4 +1,4 @@
--- The laws of a number by its bits: its bits come back, and so does it; and of a loop that makes it from the top bit down.
+-- The laws of a number by its bits: its bits come back, and so does it.
 -- Assumes nothing.
 use mathlib.Core.Path.{_≡_, refl, sym, ap, ap₂, _∙_}
 use Prim.Native.Nat.{ℕ, zero, suc, _+_, _-_, _*_, _/_, _%_, _^_, _≤_, _<_}
@@ -58,7 +58,7 @@ pub field : (n s v : ℕ) → fromBits n 0 (λ p. bitOf (s + p) v) ≡ v / 2 ^ s
 field n s v = bits-shift n s 0 (λ j. bitOf j v) ∙ ap (λ (m : ℕ). fromBits n m (λ j. bitOf j v)) (add-zero s) ∙ bits-of n s v
 
 -- the low n bits and the rest
-bits-split : (n m at : ℕ) (f : ℕ → ℕ) → fromBits (n + m) at f ≡ fromBits n at f + 2 ^ n * fromBits m (at + n) f
+pub bits-split : (n m at : ℕ) (f : ℕ → ℕ) → fromBits (n + m) at f ≡ fromBits n at f + 2 ^ n * fromBits m (at + n) f
 unfolding fromBits
 bits-split zero m at f = rw (zero-add, add-zero) (omega arith)
 bits-split (suc n) m at f =
@@ -81,32 +81,3 @@ pub four-fields : (f : ℕ → ℕ) → fromBits 8 0 (λ j. bitOf (j % 2) (f (j 
 unfolding fromBits
 four-fields f =
     bits-split 4 4 0 (λ j. bitOf (j % 2) (f (j / 2))) ∙ ap₂ (λ (x y : ℕ). x + 16 * y) (half-byte f) (half-byte (λ q. f (2 + q))) ∙ omega arith
-
--- ---- a loop v = v * 2 + bit, which makes a number of w bits from the top down: after n turns v has the upper n bits
-pub record Rising (w : ℕ) (f : ℕ → ℕ) (n v : ℕ) : Type 0 where
-  pub upto : n ≤ w
-  pub is : v ≡ fromBits n (w - n) f
-  pub small : (j : ℕ) → f j < 2
-
-pub rising-none : {w : ℕ} {f : ℕ → ℕ} → ((j : ℕ) → f j < 2) → Rising w f 0 0
-unfolding fromBits
-rising-none h = record { upto = omega arith; is = refl; small = h }
-
--- there is room for one more bit of a byte
-pub rising-space : {w n v : ℕ} {f : ℕ → ℕ} → Rising w f n v → n < w → w ≤ 8 → v < 128
-rising-space {w} {n} {v} {f} h l m =
-    let below : fromBits n (w - n) f < 2 ^ 7 = lt-of-lt-of-le (bits-lt n (w - n) f (h .small)) (pow-mono {i = n} {j = 7} (omega arith)) in
-    omega (arith, h .is)
-
-pub rising-more : {w n v b : ℕ} {f : ℕ → ℕ} → Rising w f n v → n < w → b ≡ f (w - (n + 1)) → Rising w f (n + 1) (v * 2 + b)
-unfolding fromBits
-rising-more {w} {n} {v} {b} {f} h l e =
-    let s : suc (w - (n + 1)) ≡ w - n = omega arith in
-    record {
-      upto = omega arith;
-      is = rw (h .is, e) (omega (arith, ap (λ (m : ℕ). fromBits m (w - (n + 1)) f) (add-one n), ap (λ (m : ℕ). fromBits n m f) s));
-      small = h .small;
-    }
-
-pub rising-all : {w n v : ℕ} {f : ℕ → ℕ} → Rising w f n v → w ≤ n → v ≡ fromBits w 0 f
-rising-all {w} {n} {v} {f} h l = h .is ∙ ap₂ (λ (x y : ℕ). fromBits x y f) (le-antisymm (h .upto) l) (omega arith)

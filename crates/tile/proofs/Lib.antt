@@ -1,7 +1,14 @@
 pub mod Bits
 pub mod Filling
 pub mod RoundTrip
+pub mod WordBits
+pub mod Wiring
+pub mod Wide
+pub mod Wires
+pub mod Sides
 pub mod Packings
+pub mod Turned
+pub mod Packed
 pub mod Native
 pub mod Checks
 pub mod Laws

@@ -1,21 +1,22 @@
 -- Every packing is a layout whose two sides are inverse, by computed tests, so every place that one side names is within the other.
 -- Assumes nothing.
-use mathlib.Core.Path.{_≡_, refl, sym, ap, _∙_, subst}
+use mathlib.Core.Path.{_≡_, refl, sym, ap, ap₂, _∙_, subst}
 use mathlib.Core.Bool.{Bool, true, false, not, _&&_, _||_}
 use mathlib.Core.List.{List, [], _∷_}
-use Prim.Native.Nat.{ℕ, _+_, _*_, _/_, _%_, _≤_, _<_}
-use native.Mathlib.Nat.{mul-le-mul-right, suc-mul, mul-comm}
+use Prim.Native.Nat.{ℕ, _+_, _-_, _*_, _/_, _%_, _≤_, _<_}
 use native.Mathlib.Omega.{arith}
 use lib.Dec.{T, ltb, leb, eqb, ltb→lt, leb→le, eqb→eq}
+use lib.ListN.{take, drop}
+use lib.Seq.{sets}
 use Rattle.words.specs.Inner.{all}
 use Rattle.words.proofs.Loops.{both-left, both-right, all-at}
 use Rattle.mode.specs.Table.{oneOf}
-use Rattle.tile.specs.Layout.{element}
-use Rattle.tile.specs.Packings.{planar, sprite, spriteByte, layoutIn}
-use Rattle.tile.specs.Inner.{pixelCount, byteCount, isPacking, Planes, HasByte, HasPixel}
+use Rattle.tile.specs.Packings.{planar, sprite, layoutIn}
+use Rattle.tile.specs.Inner.{pixelCount, byteCount, packedIn, unpackedIn, isPacking, Packs, Unpacks, Planes, PacksWhole, UnpacksWhole}
 use Rattle.tile.specs.declared.Packing.{Packing}
 use Rattle.tile.specs.declared.Packing.the-variants.{Planar, Ngp, LowFirst, HighFirst, Plain, Sprite}
-use Rattle.tile.proofs.RoundTrip.{isLayout, from-pixels}
+use Rattle.tile.proofs.Filling.{part-long}
+use Rattle.tile.proofs.RoundTrip.{isLayout}
 
 -- a test that is computed over a list, as a rule at each of its numbers
 abbrev pub inEach : List ℕ → (ℕ → Bool) → Bool
@@ -95,58 +96,61 @@ pub record Sized (w h : ℕ) : Type 0 where
   pub down : 0 < h / 16
   pub tall : h ≤ 64
   pub few : w * h ≤ 2048
+  pub eights : w % 8 ≡ 0
+  pub cells : w / 16 * (h / 16) * 128 ≡ w * h * 4 / 8
 
 abbrev sizeTest : ℕ → ℕ → Bool
-sizeTest w h = ltb 0 w && (leb w 32 && (ltb 0 (h / 16) && (leb h 64 && leb (w * h) 2048)))
+sizeTest w h =
+    ltb 0 w && (leb w 32 && (ltb 0 (h / 16) && (leb h 64 && (leb (w * h) 2048 && (eqb (w % 8) 0 && eqb (w / 16 * (h / 16) * 128) (w * h * 4 / 8))))))
 
 pub sized-of : (w h : ℕ) → T (isPacking (Sprite w h)) → Sized w h
 sized-of w h t =
     let here : T (sizeTest w h) = sizes-at sizeTest tt w h t in
-    let c = leb h 64 && leb (w * h) 2048 in
+    let e = eqb (w % 8) 0 && eqb (w / 16 * (h / 16) * 128) (w * h * 4 / 8) in
+    let d = leb (w * h) 2048 && e in
+    let c = leb h 64 && d in
     let b = ltb 0 (h / 16) && c in
     let a = leb w 32 && b in
     let ta = both-right (ltb 0 w) a here in
     let tb = both-right (leb w 32) b ta in
     let tc = both-right (ltb 0 (h / 16)) c tb in
+    let td = both-right (leb h 64) d tc in
+    let te = both-right (leb (w * h) 2048) e td in
     record {
       some = ltb→lt 0 w (both-left (ltb 0 w) a here);
       wide = leb→le w 32 (both-left (leb w 32) b ta);
       down = ltb→lt 0 (h / 16) (both-left (ltb 0 (h / 16)) c tb);
-      tall = leb→le h 64 (both-left (leb h 64) (leb (w * h) 2048) tc);
-      few = leb→le (w * h) 2048 (both-right (leb h 64) (leb (w * h) 2048) tc);
+      tall = leb→le h 64 (both-left (leb h 64) d tc);
+      few = leb→le (w * h) 2048 (both-left (leb (w * h) 2048) e td);
+      eights = eqb→eq (w % 8) 0 (both-left (eqb (w % 8) 0) (eqb (w / 16 * (h / 16) * 128) (w * h * 4 / 8)) te);
+      cells = eqb→eq (w / 16 * (h / 16) * 128) (w * h * 4 / 8) (both-right (eqb (w % 8) 0) (eqb (w / 16 * (h / 16) * 128) (w * h * 4 / 8)) te);
     }
 
--- the cell of byte k is within the sprite
-pub record Cell (w h k : ℕ) : Type 0 where
-  pub size : Sized w h
-  pub left : k / 128 / (h / 16) * 16 + 16 ≤ w
-  pub above : k / 128 % (h / 16) * 16 + 16 ≤ h
+-- where a cell's first pixel stands, its last is within the sprite; and where the first plane has eight pixels, the last has them too
+abbrev pub cellFrom : ℕ → ℕ → ℕ → ℕ
+cellFrom w h c = (c % (h / 16) * w + c / (h / 16)) * 16
 
-abbrev cellTest : ℕ → ℕ → ℕ → Bool
-cellTest w h k = leb (k / 128 / (h / 16) * 16 + 16) w && leb (k / 128 % (h / 16) * 16 + 16) h
+pub cell-inside : (w h c : ℕ) → T (isPacking (Sprite w h)) → c < w / 16 * (h / 16) → cellFrom w h c + 15 * w + 16 ≤ w * h
+cell-inside w h c t l =
+    let test : ℕ → ℕ → ℕ → Bool = λ w h c. leb (cellFrom w h c + 15 * w + 16) (w * h) in
+    leb→le (cellFrom w h c + 15 * w + 16) (w * h) (all-at (w / 16 * (h / 16)) (test w h) (sizes-at (λ (w h : ℕ). all (w / 16 * (h / 16)) (test w h)) tt w h t) c l)
 
-pub cell-of : (w h k : ℕ) → T (isPacking (Sprite w h)) → k < sprite w h .bytes .count → Cell w h k
-cell-of w h k t l =
-    let here : T (cellTest w h k) = all-at (sprite w h .bytes .count) (cellTest w h) (sizes-at (λ (w h : ℕ). all (sprite w h .bytes .count) (cellTest w h)) tt w h t) k l in
-    let a = leb (k / 128 / (h / 16) * 16 + 16) w in
-    let b = leb (k / 128 % (h / 16) * 16 + 16) h in
-    record { size = sized-of w h t; left = leb→le (k / 128 / (h / 16) * 16 + 16) w (both-left a b here); above = leb→le (k / 128 % (h / 16) * 16 + 16) h (both-right a b here) }
+abbrev pub planeAt : ℕ → ℕ → ℕ → ℕ
+planeAt h y x = x / 2 * (h / 16 * 128) + (y / 16 * 128 + y % 16 * 2) + x % 2
 
--- a row that is above row h ends before it, and the rows of a cell are within the sprite
-pub row-inside : (y w h : ℕ) → y < h → y * w + w ≤ h * w
-row-inside y w h l = omega (arith, mul-le-mul-right w l, suc-mul y w)
+pub planes-inside : (w h y x : ℕ) → T (isPacking (Sprite w h)) → y < h → x < w / 8 → planeAt h y x + 96 < w * h * 4 / 8
+planes-inside w h y x t ly lx =
+    let test : ℕ → ℕ → ℕ → ℕ → Bool = λ w h y x. ltb (planeAt h y x + 96) (w * h * 4 / 8) in
+    let rows : T (all h (λ y. all (w / 8) (test w h y))) = sizes-at (λ (w h : ℕ). all h (λ y. all (w / 8) (test w h y))) tt w h t in
+    ltb→lt (planeAt h y x + 96) (w * h * 4 / 8) (all-at (w / 8) (test w h y) (all-at h (λ y. all (w / 8) (test w h y)) rows y ly) x lx)
 
-pub rows-inside : (n w h : ℕ) → n ≤ h → n * w ≤ w * h
-rows-inside n w h l = omega (arith, mul-le-mul-right w l, mul-comm w h)
+-- ---- a part that is a whole tile
 
--- the byte with plane 3 of pixel i is within the bytes
-pub record SpritePixel (w h i : ℕ) : Type 0 where
-  pub size : Sized w h
-  pub inside : spriteByte h (i % w) (i / w) 3 < w * h * 4 / 8
+pub packs-whole : {p : Packing} {xs out : List ℕ} {from at n : ℕ} → Packs p xs from out at → n ≡ pixelCount p → PacksWhole p (take (from + n - from) (drop from xs)) out at
+packs-whole {p} {xs} {from = from} {n = n} h e = record { sound = h .sound; whole = part-long xs from n (pixelCount p) e (h .inside); space = h .space }
 
-pub sprite-pixel-of : (w h i : ℕ) → T (isPacking (Sprite w h)) → i < sprite w h .pixels .count → SpritePixel w h i
-sprite-pixel-of w h i t l =
-    record { size = sized-of w h t; inside = from-pixels (sprite w h) (sprite-is w h t) i 3 l (omega arith) .within }
+pub unpacks-whole : {p : Packing} {bs out : List ℕ} {from at n : ℕ} → Unpacks p bs from out at → n ≡ byteCount p → UnpacksWhole p (take (from + n - from) (drop from bs)) out at
+unpacks-whole {p} {bs} {from = from} {n = n} h e = record { sound = h .sound; whole = part-long bs from n (byteCount p) e (h .inside); space = h .space }
 
 -- ---- what holds of a packing holds of the one that a match found it to be, and the other way
 
@@ -154,17 +158,21 @@ module _ {p : Packing} (q : Packing) (e : p ≡ q) where
   pub sound-in : T (isPacking p) → T (isPacking q)
   sound-in t = subst (λ (x : Packing). T (isPacking x)) e t
 
-  pub has-byte : {xs : List ℕ} {k : ℕ} → HasByte p xs k → HasByte q xs k
-  has-byte {xs} {k} h = subst (λ (x : Packing). HasByte x xs k) e h
+  pub packs-in : {xs out : List ℕ} {at : ℕ} → PacksWhole p xs out at → PacksWhole q xs out at
+  packs-in {xs} {out} {at} h = subst (λ (x : Packing). PacksWhole x xs out at) e h
 
-  pub has-pixel : {bs : List ℕ} {i : ℕ} → HasPixel p bs i → HasPixel q bs i
-  has-pixel {bs} {i} h = subst (λ (x : Packing). HasPixel x bs i) e h
+  pub unpacks-in : {bs out : List ℕ} {at : ℕ} → UnpacksWhole p bs out at → UnpacksWhole q bs out at
+  unpacks-in {bs} {out} {at} h = subst (λ (x : Packing). UnpacksWhole x bs out at) e h
 
-  pub same-byte : (xs : List ℕ) (k : ℕ) → element (layoutIn q .bytes) xs k ≡ element (layoutIn p .bytes) xs k
-  same-byte xs k = ap (λ (x : Packing). element (layoutIn x .bytes) xs k) (sym e)
+  pub same-bytes : (xs out : List ℕ) (at from n : ℕ) → n ≡ pixelCount p → sets out at (packedIn q (take (from + n - from) (drop from xs))) ≡ sets out at (packedIn p (take (pixelCount p) (drop from xs)))
+  same-bytes xs out at from n l =
+      let size : from + n - from ≡ pixelCount p = omega arith in
+      ap₂ (λ (x : Packing) (k : ℕ). sets out at (packedIn x (take k (drop from xs)))) (sym e) size
 
-  pub same-pixel : (bs : List ℕ) (i : ℕ) → element (layoutIn q .pixels) bs i ≡ element (layoutIn p .pixels) bs i
-  same-pixel bs i = ap (λ (x : Packing). element (layoutIn x .pixels) bs i) (sym e)
+  pub same-pixels : (bs out : List ℕ) (at from n : ℕ) → n ≡ byteCount p → sets out at (unpackedIn q (take (from + n - from) (drop from bs))) ≡ sets out at (unpackedIn p (take (byteCount p) (drop from bs)))
+  same-pixels bs out at from n l =
+      let size : from + n - from ≡ byteCount p = omega arith in
+      ap₂ (λ (x : Packing) (k : ℕ). sets out at (unpackedIn x (take k (drop from bs)))) (sym e) size
 
   pub pixel-count-in : {r : ℕ} → r ≡ pixelCount q → r ≡ pixelCount p
   pixel-count-in h = h ∙ ap pixelCount (sym e)

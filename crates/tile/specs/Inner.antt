@@ -3,15 +3,17 @@
 use mathlib.Core.Path.{_≡_}
 use mathlib.Core.Bool.{Bool, true, false, cond, _&&_}
 use mathlib.Core.List.{List, [], _∷_}
-use Prim.Native.Nat.{ℕ, _+_, _-_, _*_, _/_, _%_, _≤_, _<_}
+use Prim.Native.Nat.{ℕ, zero, suc, _+_, _-_, _*_, _/_, _%_, _^_, _≤_, _<_}
+use lib.Bits.{bitAnd, bitOr}
 use lib.Dec.{T, ltb, eqb}
 use lib.ListN.{length, getD}
+use Rattle.words.specs.Loops.{each}
 use Rattle.mode.specs.Table.{oneOf}
 use Rattle.tile.specs.Bits.{bitOf, fromBits}
-use Rattle.tile.specs.Packings.{layoutIn}
+use Rattle.tile.specs.Packings.{layoutIn, lowFirst, highFirst}
 use Rattle.tile.specs.declared.Packing.{Packing}
 use Rattle.tile.specs.declared.Packing.the-variants.{Planar, Ngp, LowFirst, HighFirst, Plain, Sprite}
-use Rattle.tile.specs.Layout.{spread}
+use Rattle.tile.specs.Layout.{Side, Layout, spread}
 
 -- How many pixels and bytes a packing has; and the bytes of its pixels, and back.
 abbrev pub pixelCount : Packing → ℕ
@@ -47,16 +49,16 @@ pub record Unpacks (p : Packing) (bytes : List ℕ) (from : ℕ) (out : List ℕ
   pub inside : from + byteCount p ≤ length bytes
   pub space : at + pixelCount p ≤ length out
 
--- Byte k of a tile's bytes, and pixel i of its pixels.
-pub record HasByte (p : Packing) (pixels : List ℕ) (k : ℕ) : Type 0 where
+-- The same of a whole tile, its pixels or its bytes.
+pub record PacksWhole (p : Packing) (pixels out : List ℕ) (at : ℕ) : Type 0 where
   pub sound : T (isPacking p)
   pub whole : length pixels ≡ pixelCount p
-  pub within : k < byteCount p
+  pub space : at + byteCount p ≤ length out
 
-pub record HasPixel (p : Packing) (bytes : List ℕ) (i : ℕ) : Type 0 where
+pub record UnpacksWhole (p : Packing) (bytes out : List ℕ) (at : ℕ) : Type 0 where
   pub sound : T (isPacking p)
   pub whole : length bytes ≡ byteCount p
-  pub within : i < pixelCount p
+  pub space : at + pixelCount p ≤ length out
 
 -- Groups of one, two or four planes, and d planes in whole groups of g, as arithmetic takes them.
 pub record Group (g : ℕ) : Type 0 where
@@ -70,19 +72,121 @@ pub record Planes (g d : ℕ) : Type 0 where
   pub pairs : g ≡ 2 → d % 2 ≡ 0
   pub fours : g ≡ 4 → d % 4 ≡ 0
 
--- A cell of a tile w wide, with so many cells on its left and so many above.
-pub record HasCell (tile : List ℕ) (w left above : ℕ) : Type 0 where
-  pub inside : left * 16 + 16 ≤ w
-  pub few : above < 4
-  pub whole : (above * 16 + 16) * w ≤ length tile
+-- Nibbles, the first pixel in the high one or in the low one.
+abbrev pub nibbles : Bool → Layout
+nibbles high = cond high (highFirst 8 8) (lowFirst 8 8)
 
--- The column of the pixel that is bit j of eight, and plane p of eight pixels from place at on: the leftmost is the top bit or the bottom one.
-abbrev pub columnOf : Bool → ℕ → ℕ
-columnOf top j = cond top (7 - j) j
+-- ---- words of eight bytes, the first at the bottom
 
-abbrev pub planeByte : Bool → List ℕ → ℕ → ℕ → ℕ
-planeByte top xs at p = fromBits 8 0 (λ j. bitOf p (getD xs (at + columnOf top j) 0))
+-- The number whose bytes, lowest first, are f at, f (at + 1), .., n of them.
+unfoldable pub wide : ℕ → ℕ → (ℕ → ℕ) → ℕ
+wide zero at f = 0
+wide (suc n) at f = f at + 256 * wide n (suc at) f
 
--- Byte k of a cell.
-abbrev pub cellByte : List ℕ → ℕ → ℕ → ℕ → ℕ → ℕ
-cellByte xs w left above k = planeByte false xs ((above * 16 + k % 32 / 2) * w + (left * 16 + k % 2 * 8)) (k % 128 / 32)
+-- The word of the eight bytes from place at on.
+abbrev pub wordAt : List ℕ → ℕ → ℕ
+wordAt xs at = wide 8 0 (λ x. getD xs (at + x) 0)
+
+-- Byte m of a word, all eight, and byte k of words.
+abbrev pub byteIn : ℕ → ℕ → ℕ
+byteIn w m = w / 2 ^ (m * 8) % 256
+
+abbrev pub bytesIn : ℕ → List ℕ
+bytesIn w = each 8 (λ m. byteIn w m ∷ [])
+
+abbrev pub byteOf : List ℕ → ℕ → ℕ
+byteOf ws k = byteIn (getD ws (k / 8) 0) (k % 8)
+
+-- Words of 64 bits.
+abbrev pub Small : List ℕ → Type 0
+Small ws = (i : ℕ) → getD ws i 0 < 2 ^ 64
+
+-- The first n words of a list.
+pub record WordsOf (xs : List ℕ) (n : ℕ) (ws : List ℕ) : Type 0 where
+  pub are : (k : ℕ) → k < n * 8 → byteOf ws k ≡ getD xs k 0
+  pub small : Small ws
+
+-- The words of a cell of 16x16, two a row, whose first pixel stands at place from of a tile w wide.
+pub record CellOf (xs : List ℕ) (from w : ℕ) (ws : List ℕ) : Type 0 where
+  pub are : (k : ℕ) → k < 256 → byteOf ws k ≡ getD xs (from + k / 16 * w + k % 16) 0
+  pub small : Small ws
+
+-- n words read, and if they are fewer than eight the list ends there.
+pub record Reads (xs : List ℕ) (n : ℕ) : Type 0 where
+  pub few : n ≤ 8
+  pub inside : n * 8 ≤ length xs
+  pub ends : n < 8 → length xs ≤ n * 8
+
+-- Words whose bytes were turned, so that byte x has the bits of column x: bit q is that of byte q.
+pub record Turned (xs ts : List ℕ) : Type 0 where
+  pub are : (k q : ℕ) → k < 64 → q < 8 → bitOf q (byteOf ts k) ≡ bitOf (7 - k % 8) (getD xs (k / 8 * 8 + q) 0)
+  pub small : Small ts
+
+-- v, or 0.
+unfoldable pub gate : Bool → ℕ → ℕ
+gate true v = v
+gate false v = 0
+
+-- Word b of a side, where ws are the words of the other: bit j of it is bit j % 8 of number b * 8 + j / 8, if it has so many.
+unfoldable pub wordFrom : Side → List ℕ → ℕ → ℕ
+wordFrom s ws b =
+    fromBits 64 0
+    (λ j. gate (ltb (j % 8) (s .bits))
+    (bitOf (s .from (b * 8 + j / 8) (j % 8) % 8 * 8 + s .place (b * 8 + j / 8) (j % 8)) (getD ws (s .from (b * 8 + j / 8) (j % 8) / 8) 0)))
+
+-- The first n words of a side.
+abbrev pub WordsFrom : Side → List ℕ → ℕ → List ℕ → Type 0
+WordsFrom s ws n vs = (i : ℕ) → i < n → getD vs i 0 ≡ wordFrom s ws i
+
+-- The bytes of a word are f's from 8 * b on; and those of n words are its first.
+abbrev pub HasWord : (ℕ → ℕ) → ℕ → ℕ → Type 0
+HasWord f b w = (m : ℕ) → m < 8 → byteIn w m ≡ f (b * 8 + m)
+
+abbrev pub HasWords : (ℕ → ℕ) → ℕ → List ℕ → Type 0
+HasWords f n ws = (i : ℕ) → i < n → HasWord f i (getD ws i 0)
+
+-- A word turned: bit q of byte x is bit 7 - x of byte q.
+abbrev pub turn : Side
+turn = record { count = 8; bits = 8; from = λ x q. q; place = λ x q. 7 - x }
+
+-- Rows and columns of bits exchanged: bit q of byte x is bit x of byte q.
+abbrev pub exchange : Side
+exchange = record { count = 8; bits = 8; from = λ x q. q; place = λ x q. x }
+
+-- The pixels of eight planes in groups of g, out of words that were turned.
+abbrev pub strands : ℕ → Side
+strands g = record { count = 64; bits = 8; from = λ i p. (p / g * g + i / 8 * g / 8) * 8 + i % 8; place = λ i p. i / 8 * g % 8 + p % g }
+
+-- The bytes of a cell out of its words, four planes of 32 bytes; and byte k of the cell itself.
+abbrev pub cell : Side
+cell = record { count = 128; bits = 8; from = λ k j. k % 32 * 8 + j; place = λ k j. k / 32 }
+
+abbrev pub cellByte : List ℕ → ℕ → ℕ → ℕ → ℕ
+cellByte xs from w k = fromBits 8 0 (λ j. bitOf (k / 32) (getD xs (from + k % 32 / 2 * w + (k % 2 * 8 + j)) 0))
+
+-- Pixel m of the eight whose plane bytes stand 32 apart from place k on.
+abbrev pub spritePixel : List ℕ → ℕ → ℕ → ℕ
+spritePixel xs k m = fromBits 4 0 (λ p. bitOf m (getD xs (k + p * 32) 0))
+
+abbrev pub SpritePixels : List ℕ → ℕ → ℕ → Type 0
+SpritePixels xs k w = (m : ℕ) → m < 8 → byteIn w m ≡ spritePixel xs k m
+
+-- ---- the word functions' exchanges
+
+-- The bits that m keeps change places with those s places above them; c keeps the others.
+abbrev pub swapped : ℕ → ℕ → ℕ → ℕ → ℕ
+swapped c m s w = bitOr (bitOr (bitAnd w c) (bitAnd w m * 2 ^ s % 2 ^ 64)) (bitAnd (w / 2 ^ s) m)
+
+-- Rows and columns of bits exchanged: bit j of byte k becomes bit k of byte j.
+unfoldable pub crossed : ℕ → ℕ
+crossed w =
+    let a : ℕ = swapped 0xaa55aa55aa55aa55 0x00aa00aa00aa00aa 7 w in
+    let b : ℕ = swapped 0xcccc3333cccc3333 0x0000cccc0000cccc 14 a in
+    swapped 0xf0f0f0f00f0f0f0f 0x00000000f0f0f0f0 28 b
+
+-- The bytes in reverse order.
+unfoldable pub flipped : ℕ → ℕ
+flipped w =
+    let a : ℕ = bitOr (bitAnd w 0x00ff00ff00ff00ff * 2 ^ 8 % 2 ^ 64) (bitAnd (w / 2 ^ 8) 0x00ff00ff00ff00ff) in
+    let b : ℕ = bitOr (bitAnd a 0x0000ffff0000ffff * 2 ^ 16 % 2 ^ 64) (bitAnd (a / 2 ^ 16) 0x0000ffff0000ffff) in
+    bitOr (b * 2 ^ 32 % 2 ^ 64) (b / 2 ^ 32)

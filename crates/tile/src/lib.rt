@@ -7,14 +7,14 @@ ghost use mathlib.Core.Path.{_≡_};
 ghost use mathlib.Core.List.{[], _∷_};
 ghost use Prim.Native.Nat.{_+_, _*_, _<_, _≤_};
 ghost use lib.Dec.{T};
-ghost use lib.ListN.{length, take, drop};
+ghost use lib.ListN.{length, getD, take, drop};
 ghost use lib.Seq.{sets};
 ghost use Rattle.words.specs.Answers.{Wrote};
-ghost use Rattle.words.specs.Loops.{some};
+ghost use Rattle.words.specs.Loops.{each, some};
 ghost use Rattle.mode.specs.Table.{oneOf};
-ghost use Rattle.tile.specs.Layout.{element};
-ghost use Rattle.tile.specs.Packings.{planar, ngp, lowFirst, highFirst, plain, sprite, layoutIn};
-ghost use Rattle.tile.specs.Inner.{pixelCount, byteCount, packedIn, unpackedIn, columnOf, planeByte, cellByte, isPacking, Group, Planes, HasCell, HasByte, HasPixel, Packs, Unpacks};
+ghost use Rattle.tile.specs.Layout.{element, spread};
+ghost use Rattle.tile.specs.Packings.{planar, ngp, lowFirst, highFirst, sprite};
+ghost use Rattle.tile.specs.Inner.{pixelCount, byteCount, packedIn, unpackedIn, isPacking, Packs, Unpacks, PacksWhole, UnpacksWhole, Group, nibbles, wordAt, byteIn, bytesIn, Small, WordsOf, CellOf, Reads, Turned, wordFrom, WordsFrom, strands, cell, cellByte, SpritePixels, crossed, flipped};
 ghost use Rattle.tile.specs.Tile.{pairs, fours, gbaPacking, wscPacking, packingOf, isNative, tooLarge, tileSays, packSays, unpackSays, packed, unpacked};
 
 // How the bits of a tile's pixels stand in its bytes.
@@ -60,114 +60,324 @@ pub fn byte_count(p: Packing) -> usize
     }
 }
 
-// The column of the pixel that is bit j of eight: the leftmost is the top bit or the bottom one.
-fn column(top: bool, j: usize) -> usize
-    requires { ⌜ j < 8 ⌝ }
-    ensures { λ r. ⌜ (r ≡ columnOf top j) × (r < 8) ⌝ }
+fn widen(b: u8) -> u64
+    ensures { λ r. ⌜ r ≡ b ⌝ }
 {
-    if top {
-        return 7 - j;
-    }
-    j
+    b as u64
 }
 
-// Plane p of the eight pixels from place at on, the leftmost at the top or at the bottom.
-fn plane_byte(tile: &[u8], top: bool, at: usize, p: usize) -> u8
-    requires { ⌜ (at + 8 ≤ length (now tile)) × (p < 8) ⌝ }
-    ensures { λ r. ⌜ r ≡ planeByte top (now (tile .entry)) at p ⌝ }
+// The word of the eight bytes from place at on, the first at the bottom.
+fn word_at(bytes: &[u8], at: usize) -> u64
+    requires { ⌜ at + 8 ≤ length (now bytes) ⌝ }
+    ensures { λ r. ⌜ r ≡ wordAt (now (bytes .entry)) at ⌝ }
 {
-    let mut b: u8 = 0;
+    let mut w: u64 = 0;
     let mut n = 0;
     while n < 8 {
-        let x = column(top, 8 - (n + 1));
-        b = b * 2 + (tile[at + x] >> p) % 2;
+        w = w * 256 + widen(bytes[at + (7 - n)]);
         n += 1;
     }
-    b
+    w
 }
 
-// Byte k of a planar tile; it is the same at each depth that has it.
-fn planar_byte(tile: &[u8], group: usize, k: usize) -> u8
-    requires { ⌜ Group group × (length (now tile) ≡ 64) × (k < 64) ⌝ }
-    ensures { λ r. ⌜ r ≡ element (planar group 8 8 8 .bytes) (now (tile .entry)) k ⌝ }
+// The first n words of a tile, and 0 for the others.
+fn words_of(bytes: &[u8], n: usize) -> [u64; 8]
+    requires { ⌜ (n ≤ 8) × (n * 8 ≤ length (now bytes)) ⌝ }
+    ensures { λ r. ⌜ WordsOf (now (bytes .entry)) n r ⌝ }
+{
+    let mut ws = [0u64; 8];
+    let mut i = 0;
+    while i < n {
+        ws[i] = word_at(bytes, i * 8);
+        i += 1;
+    }
+    ws
+}
+
+fn byte(w: u64, m: usize) -> u8
+    requires { ⌜ m < 8 ⌝ }
+    ensures { λ r. ⌜ r ≡ byteIn w m ⌝ }
+{
+    ((w >> (m * 8)) % 256) as u8
+}
+
+// The bytes of a word, from place at of out on.
+fn put_bytes(out: &mut [u8], at: usize, w: u64)
+    requires { ⌜ at + 8 ≤ length (now out) ⌝ }
+    ensures { λ _. ⌜ now (out .exit) ≡ sets (now (out .entry)) at (bytesIn w) ⌝ }
+{
+    let mut m = 0;
+    while m < 8 {
+        out[at + m] = byte(w, m);
+        m += 1;
+    }
+}
+
+// The bytes of n words, from place at of out on.
+fn put_words(out: &mut [u8], at: usize, ws: &[u64; 8], n: usize)
+    requires { ⌜ (n ≤ 8) × (at + n * 8 ≤ length (now out)) ⌝ }
+    ensures { λ _. ⌜ now (out .exit) ≡ sets (now (out .entry)) at (each n (λ i. bytesIn (getD (now (ws .entry)) i 0))) ⌝ }
+{
+    let mut i = 0;
+    while i < n {
+        put_bytes(out, at + i * 8, ws[i]);
+        i += 1;
+    }
+}
+
+// Bit j of byte k becomes bit k of byte j, by three exchanges.
+fn cross(w: u64) -> u64
+    ensures { λ r. ⌜ r ≡ crossed w ⌝ }
+{
+    let a = (w & 0xaa55aa55aa55aa55)
+        | ((w & 0x00aa00aa00aa00aa) << 7)
+        | ((w >> 7) & 0x00aa00aa00aa00aa);
+    let b = (a & 0xcccc3333cccc3333)
+        | ((a & 0x0000cccc0000cccc) << 14)
+        | ((a >> 14) & 0x0000cccc0000cccc);
+    (b & 0xf0f0f0f00f0f0f0f) | ((b & 0x00000000f0f0f0f0) << 28) | ((b >> 28) & 0x00000000f0f0f0f0)
+}
+
+// The bytes of a word in reverse order.
+fn flip(w: u64) -> u64
+    ensures { λ r. ⌜ r ≡ flipped w ⌝ }
+{
+    let a = ((w & 0x00ff00ff00ff00ff) << 8) | ((w >> 8) & 0x00ff00ff00ff00ff);
+    let b = ((a & 0x0000ffff0000ffff) << 16) | ((a >> 16) & 0x0000ffff0000ffff);
+    (b << 32) | (b >> 32)
+}
+
+// Eight bytes of a planar tile whose rows are the words ws: with planes alone, one bit of each pixel of the eight rows; in pairs two bits of four
+// rows; in fours four bits of two.
+fn one_plane_word(ws: &[u64; 8], b: usize) -> u64
+    requires { ⌜ Small (now ws) × (b < 8) ⌝ }
+    ensures { λ r. ⌜ r ≡ wordFrom (planar 1 8 8 8 .bytes) (now (ws .entry)) b ⌝ }
+{
+    let m = 0x0101010101010101;
+    let w = ((ws[0] >> b) & m)
+        | (((ws[1] >> b) & m) << 1)
+        | (((ws[2] >> b) & m) << 2)
+        | (((ws[3] >> b) & m) << 3)
+        | (((ws[4] >> b) & m) << 4)
+        | (((ws[5] >> b) & m) << 5)
+        | (((ws[6] >> b) & m) << 6)
+        | (((ws[7] >> b) & m) << 7);
+    cross(flip(w))
+}
+
+fn pair_word(ws: &[u64; 8], b: usize) -> u64
+    requires { ⌜ Small (now ws) × (b < 8) ⌝ }
+    ensures { λ r. ⌜ r ≡ wordFrom (planar 2 8 8 8 .bytes) (now (ws .entry)) b ⌝ }
+{
+    let m = 0x0303030303030303;
+    let at = b % 2 * 4;
+    let s = b / 2 * 2;
+    let w = ((ws[at] >> s) & m)
+        | (((ws[at + 1] >> s) & m) << 2)
+        | (((ws[at + 2] >> s) & m) << 4)
+        | (((ws[at + 3] >> s) & m) << 6);
+    cross(flip(w))
+}
+
+fn four_word(ws: &[u64; 8], b: usize) -> u64
+    requires { ⌜ Small (now ws) × (b < 8) ⌝ }
+    ensures { λ r. ⌜ r ≡ wordFrom (planar 4 8 8 8 .bytes) (now (ws .entry)) b ⌝ }
+{
+    let m = 0x0f0f0f0f0f0f0f0f;
+    let at = b % 4 * 2;
+    let s = b / 4 * 4;
+    let w = ((ws[at] >> s) & m) | (((ws[at + 1] >> s) & m) << 4);
+    cross(flip(w))
+}
+
+// Word b of a planar tile; it is the same at each depth that has it.
+fn planar_word(ws: &[u64; 8], group: usize, b: usize) -> u64
+    requires { ⌜ Small (now ws) × Group group × (b < 8) ⌝ }
+    ensures { λ r. ⌜ r ≡ wordFrom (planar group 8 8 8 .bytes) (now (ws .entry)) b ⌝ }
 {
     if group == 1 {
-        return plane_byte(tile, true, k % 8 * 8, k / 8);
+        return one_plane_word(ws, b);
     }
     if group == 2 {
-        return plane_byte(tile, true, k / 2 % 8 * 8, k / 16 * 2 + k % 2);
+        return pair_word(ws, b);
     }
-    plane_byte(tile, true, k / 4 % 8 * 8, k / 32 * 4 + k % 4)
+    four_word(ws, b)
 }
 
-// Byte k of an ngp tile: four pixels of two bits, the leftmost at the top.
-fn ngp_byte(tile: &[u8], k: usize) -> u8
-    requires { ⌜ (length (now tile) ≡ 64) × (k < 16) ⌝ }
-    ensures { λ r. ⌜ r ≡ element (ngp 8 8 .bytes) (now (tile .entry)) k ⌝ }
+// The first n words of a planar tile whose rows are the words ws.
+fn planar_words(ws: &[u64; 8], group: usize, n: usize) -> [u64; 8]
+    requires { ⌜ Small (now ws) × Group group × (n ≤ 8) ⌝ }
+    ensures { λ r. ⌜ WordsFrom (planar group 8 8 8 .bytes) (now (ws .entry)) n r ⌝ }
 {
-    let at = k / 2 * 8 + (7 - k % 2 * 4);
-    tile[at] % 4 + tile[at - 1] % 4 * 4 + tile[at - 2] % 4 * 16 + tile[at - 3] % 4 * 64
+    let mut part = [0u64; 8];
+    let mut b = 0;
+    while b < n {
+        part[b] = planar_word(ws, group, b);
+        b += 1;
+    }
+    part
 }
 
-// Byte k of a tile of nibbles.
-fn low_first_byte(tile: &[u8], k: usize) -> u8
-    requires { ⌜ (length (now tile) ≡ 64) × (k < 32) ⌝ }
-    ensures { λ r. ⌜ r ≡ element (lowFirst 8 8 .bytes) (now (tile .entry)) k ⌝ }
+// The bytes of a planar tile. The words are made before the first is stored: stored one by one, each is made byte by byte.
+fn put_planes(tile: &[u8], group: usize, depth: usize, out: &mut [u8], at: usize)
+    requires { ⌜ PacksWhole (Packing.Planar group depth) (now tile) (now out) at ⌝ }
+    ensures { λ _. ⌜ now (out .exit) ≡ sets (now (out .entry)) at (spread (planar group depth 8 8 .bytes) (now (tile .entry))) ⌝ }
 {
-    let first = tile[k * 2] % 16;
-    let second = tile[k * 2 + 1] % 16;
-    first + second * 16
+    let ws = words_of(tile, 8);
+    let part = planar_words(&ws, group, depth);
+    put_words(out, at, &part, depth);
 }
 
-fn high_first_byte(tile: &[u8], k: usize) -> u8
-    requires { ⌜ (length (now tile) ≡ 64) × (k < 32) ⌝ }
-    ensures { λ r. ⌜ r ≡ element (highFirst 8 8 .bytes) (now (tile .entry)) k ⌝ }
+// Word b of an ngp tile: the low two bits of the pixels of four rows, the leftmost at the top.
+fn ngp_word(ws: &[u64; 8], b: usize) -> u64
+    requires { ⌜ Small (now ws) × (b < 2) ⌝ }
+    ensures { λ r. ⌜ r ≡ wordFrom (ngp 8 8 .bytes) (now (ws .entry)) b ⌝ }
 {
-    let first = tile[k * 2] % 16;
-    let second = tile[k * 2 + 1] % 16;
-    second + first * 16
+    let at = b * 4;
+    let e = ws[at] & 0x0303030303030303;
+    let f = ws[at + 1] & 0x0303030303030303;
+    let g = ws[at + 2] & 0x0303030303030303;
+    let h = ws[at + 3] & 0x0303030303030303;
+    let i = ((e << 2) | (e >> 8)) & 0x000f000f000f000f;
+    let j = ((f << 2) | (f >> 8)) & 0x000f000f000f000f;
+    let k = ((g << 2) | (g >> 8)) & 0x000f000f000f000f;
+    let l = ((h << 2) | (h >> 8)) & 0x000f000f000f000f;
+    let m = ((i << 4) | (i >> 16)) & 0x000000ff000000ff;
+    let n = ((j << 4) | (j >> 16)) & 0x000000ff000000ff;
+    let o = ((k << 4) | (k >> 16)) & 0x000000ff000000ff;
+    let p = ((l << 4) | (l >> 16)) & 0x000000ff000000ff;
+    let q = ((m << 8) | (m >> 32)) & 0x000000000000ffff;
+    let r = ((n << 8) | (n >> 32)) & 0x000000000000ffff;
+    let s = ((o << 8) | (o >> 32)) & 0x000000000000ffff;
+    q | (r << 16) | (s << 32) | (((p << 8) | (p >> 32)) << 48)
 }
 
-fn plain_byte(tile: &[u8], k: usize) -> u8
-    requires { ⌜ k < length (now tile) ⌝ }
-    ensures { λ r. ⌜ r ≡ element (plain 8 8 .bytes) (now (tile .entry)) k ⌝ }
+fn put_ngp(tile: &[u8], out: &mut [u8], at: usize)
+    requires { ⌜ PacksWhole Packing.Ngp (now tile) (now out) at ⌝ }
+    ensures { λ _. ⌜ now (out .exit) ≡ sets (now (out .entry)) at (spread (ngp 8 8 .bytes) (now (tile .entry))) ⌝ }
 {
-    tile[k]
+    let ws = words_of(tile, 8);
+    let mut b = 0;
+    while b < 2 {
+        put_bytes(out, at + b * 8, ngp_word(&ws, b));
+        b += 1;
+    }
 }
 
-// Byte k % 128 of the cell that has so many cells on its left and so many above: four planes, in a plane two bytes a row.
-fn cell_byte(tile: &[u8], width: usize, left: usize, above: usize, k: usize) -> u8
-    requires { ⌜ HasCell (now tile) width left above ⌝ }
-    ensures { λ r. ⌜ r ≡ cellByte (now (tile .entry)) width left above k ⌝ }
+// Word b of a tile of nibbles: the low four bits of the pixels of two rows.
+fn low_first_word(ws: &[u64; 8], b: usize) -> u64
+    requires { ⌜ Small (now ws) × (b < 4) ⌝ }
+    ensures { λ r. ⌜ r ≡ wordFrom (lowFirst 8 8 .bytes) (now (ws .entry)) b ⌝ }
 {
-    let x = left * 16 + k % 2 * 8;
-    let y = above * 16 + k % 32 / 2;
-    plane_byte(tile, false, y * width + x, k % 128 / 32)
+    let at = b * 2;
+    let p = ws[at] & 0x0f0f0f0f0f0f0f0f;
+    let q = ws[at + 1] & 0x0f0f0f0f0f0f0f0f;
+    let r = (p | (p >> 4)) & 0x00ff00ff00ff00ff;
+    let s = (q | (q >> 4)) & 0x00ff00ff00ff00ff;
+    let t = (r | (r >> 8)) & 0x0000ffff0000ffff;
+    let u = (s | (s >> 8)) & 0x0000ffff0000ffff;
+    ((t | (t >> 16)) & 0x00000000ffffffff) | ((u | (u >> 16)) << 32)
 }
 
-// Byte k of a sprite: columns of cells, each top to bottom.
-fn sprite_byte(tile: &[u8], width: usize, height: usize, k: usize) -> u8
-    requires { ⌜ T (isPacking (Packing.Sprite width height)) × (length (now tile) ≡ sprite width height .pixels .count) × (k < sprite width height .bytes .count) ⌝ }
-    ensures { λ r. ⌜ r ≡ element (sprite width height .bytes) (now (tile .entry)) k ⌝ }
+fn high_first_word(ws: &[u64; 8], b: usize) -> u64
+    requires { ⌜ Small (now ws) × (b < 4) ⌝ }
+    ensures { λ r. ⌜ r ≡ wordFrom (highFirst 8 8 .bytes) (now (ws .entry)) b ⌝ }
+{
+    let at = b * 2;
+    let p = ws[at] & 0x0f0f0f0f0f0f0f0f;
+    let q = ws[at + 1] & 0x0f0f0f0f0f0f0f0f;
+    let r = ((p << 4) | (p >> 8)) & 0x00ff00ff00ff00ff;
+    let s = ((q << 4) | (q >> 8)) & 0x00ff00ff00ff00ff;
+    let t = (r | (r >> 8)) & 0x0000ffff0000ffff;
+    let u = (s | (s >> 8)) & 0x0000ffff0000ffff;
+    ((t | (t >> 16)) & 0x00000000ffffffff) | ((u | (u >> 16)) << 32)
+}
+
+fn nibble_word(ws: &[u64; 8], high: bool, b: usize) -> u64
+    requires { ⌜ Small (now ws) × (b < 4) ⌝ }
+    ensures { λ r. ⌜ r ≡ wordFrom (nibbles high .bytes) (now (ws .entry)) b ⌝ }
+{
+    if high {
+        return high_first_word(ws, b);
+    }
+    low_first_word(ws, b)
+}
+
+fn put_nibbles(tile: &[u8], high: bool, out: &mut [u8], at: usize)
+    requires { ⌜ (length (now tile) ≡ 64) × (at + 32 ≤ length (now out)) ⌝ }
+    ensures { λ _. ⌜ now (out .exit) ≡ sets (now (out .entry)) at (spread (nibbles high .bytes) (now (tile .entry))) ⌝ }
+{
+    let ws = words_of(tile, 8);
+    let mut b = 0;
+    while b < 4 {
+        put_bytes(out, at + b * 8, nibble_word(&ws, high, b));
+        b += 1;
+    }
+}
+
+// The words of a cell, two a row: its first pixel stands at place from of a tile so wide.
+fn cell_words(tile: &[u8], from: usize, width: usize) -> [u64; 32]
+    requires { ⌜ (width ≤ 32) × (from + 15 * width + 16 ≤ length (now tile)) ⌝ }
+    ensures { λ r. ⌜ CellOf (now (tile .entry)) from width r ⌝ }
+{
+    let mut ws = [0u64; 32];
+    let mut i = 0;
+    while i < 32 {
+        ws[i] = word_at(tile, from + i / 2 * width + i % 2 * 8);
+        i += 1;
+    }
+    ws
+}
+
+// Word b of a cell: one plane of four rows, the leftmost pixel at the bottom.
+fn cell_word(ws: &[u64; 32], b: usize) -> u64
+    requires { ⌜ Small (now ws) × (b < 16) ⌝ }
+    ensures { λ r. ⌜ r ≡ wordFrom cell (now (ws .entry)) b ⌝ }
+{
+    let m = 0x0101010101010101;
+    let at = b % 4 * 8;
+    let s = b / 4;
+    let w = ((ws[at] >> s) & m)
+        | (((ws[at + 1] >> s) & m) << 1)
+        | (((ws[at + 2] >> s) & m) << 2)
+        | (((ws[at + 3] >> s) & m) << 3)
+        | (((ws[at + 4] >> s) & m) << 4)
+        | (((ws[at + 5] >> s) & m) << 5)
+        | (((ws[at + 6] >> s) & m) << 6)
+        | (((ws[at + 7] >> s) & m) << 7);
+    cross(w)
+}
+
+// The bytes of a cell: four planes, in a plane two bytes a row.
+fn put_cell(tile: &[u8], from: usize, width: usize, out: &mut [u8], at: usize)
+    requires { ⌜ (width ≤ 32) × (from + 15 * width + 16 ≤ length (now tile)) × (at + 128 ≤ length (now out)) ⌝ }
+    ensures { λ _. ⌜ now (out .exit) ≡ sets (now (out .entry)) at (each 128 (λ k. cellByte (now (tile .entry)) from width k ∷ [])) ⌝ }
+{
+    let ws = cell_words(tile, from, width);
+    let mut b = 0;
+    while b < 16 {
+        put_bytes(out, at + b * 8, cell_word(&ws, b));
+        b += 1;
+    }
+}
+
+// The bytes of a sprite: columns of cells, each top to bottom.
+fn put_sprite(tile: &[u8], width: usize, height: usize, out: &mut [u8], at: usize)
+    requires { ⌜ PacksWhole (Packing.Sprite width height) (now tile) (now out) at ⌝ }
+    ensures { λ _. ⌜ now (out .exit) ≡ sets (now (out .entry)) at (spread (sprite width height .bytes) (now (tile .entry))) ⌝ }
 {
     let down = height / 16;
-    let left = k / 128 / down;
-    let above = k / 128 % down;
-    cell_byte(tile, width, left, above, k)
-}
-
-// Byte k of the tile with these pixels.
-fn packed_byte(p: Packing, tile: &[u8], k: usize) -> u8
-    requires { ⌜ HasByte p (now tile) k ⌝ }
-    ensures { λ r. ⌜ r ≡ element (layoutIn p .bytes) (now (tile .entry)) k ⌝ }
-{
-    match p {
-        Packing::Planar { group, depth: _ } => planar_byte(tile, group, k),
-        Packing::Ngp => ngp_byte(tile, k),
-        Packing::LowFirst => low_first_byte(tile, k),
-        Packing::HighFirst => high_first_byte(tile, k),
-        Packing::Plain => plain_byte(tile, k),
-        Packing::Sprite { width, height } => sprite_byte(tile, width, height, k),
+    let n = width / 16 * down;
+    let mut c = 0;
+    while c < n {
+        put_cell(
+            tile,
+            (c % down * width + c / down) * 16,
+            width,
+            out,
+            at + c * 128,
+        );
+        c += 1;
     }
 }
 
@@ -178,103 +388,206 @@ pub fn put_tile(p: Packing, pixels: &[u8], from: usize, out: &mut [u8], at: usiz
 {
     let end = from + pixel_count(p);
     let tile = &pixels[from..end];
-    let n = byte_count(p);
-    let mut k = 0;
-    while k < n {
-        out[at + k] = packed_byte(p, tile, k);
-        k += 1;
+    match p {
+        Packing::Planar { group, depth } => put_planes(tile, group, depth, out, at),
+        Packing::Ngp => put_ngp(tile, out, at),
+        Packing::LowFirst => put_nibbles(tile, false, out, at),
+        Packing::HighFirst => put_nibbles(tile, true, out, at),
+        Packing::Plain => words::put(out, at, tile),
+        Packing::Sprite { width, height } => put_sprite(tile, width, height, out, at),
     }
 }
 
-// The byte of a planar tile that has plane p of pixel i.
-fn planar_place(group: usize, depth: usize, i: usize, p: usize) -> usize
-    requires { ⌜ Planes group depth × (i < 64) × (p < depth) ⌝ }
-    ensures { λ r. ⌜ (r ≡ planar group depth 8 8 .pixels .from i p) × (r < depth * 8) ⌝ }
+// The first n words of a tile's bytes, each turned, and 0 for the others: byte x of a word has the bits of column x.
+fn turned_words(bytes: &[u8], n: usize) -> [u64; 8]
+    requires { ⌜ Reads (now bytes) n ⌝ }
+    ensures { λ r. ⌜ Turned (now (bytes .entry)) r ⌝ }
+{
+    let mut ws = [0u64; 8];
+    let mut i = 0;
+    while i < n {
+        ws[i] = flip(cross(word_at(bytes, i * 8)));
+        i += 1;
+    }
+    ws
+}
+
+// Row r of a planar tile whose turned words are ws: planes alone, one bit of each word; in pairs two bits of every second word; in fours four
+// bits of every fourth.
+fn one_plane_row(ws: &[u64; 8], r: usize) -> u64
+    requires { ⌜ Small (now ws) × (r < 8) ⌝ }
+    ensures { λ w. ⌜ w ≡ wordFrom (strands 1) (now (ws .entry)) r ⌝ }
+{
+    let m = 0x0101010101010101;
+    ((ws[0] >> r) & m)
+        | (((ws[1] >> r) & m) << 1)
+        | (((ws[2] >> r) & m) << 2)
+        | (((ws[3] >> r) & m) << 3)
+        | (((ws[4] >> r) & m) << 4)
+        | (((ws[5] >> r) & m) << 5)
+        | (((ws[6] >> r) & m) << 6)
+        | (((ws[7] >> r) & m) << 7)
+}
+
+fn pair_row(ws: &[u64; 8], r: usize) -> u64
+    requires { ⌜ Small (now ws) × (r < 8) ⌝ }
+    ensures { λ w. ⌜ w ≡ wordFrom (strands 2) (now (ws .entry)) r ⌝ }
+{
+    let m = 0x0303030303030303;
+    let at = r / 4;
+    let s = r % 4 * 2;
+    ((ws[at] >> s) & m)
+        | (((ws[at + 2] >> s) & m) << 2)
+        | (((ws[at + 4] >> s) & m) << 4)
+        | (((ws[at + 6] >> s) & m) << 6)
+}
+
+fn four_row(ws: &[u64; 8], r: usize) -> u64
+    requires { ⌜ Small (now ws) × (r < 8) ⌝ }
+    ensures { λ w. ⌜ w ≡ wordFrom (strands 4) (now (ws .entry)) r ⌝ }
+{
+    let m = 0x0f0f0f0f0f0f0f0f;
+    let at = r / 2;
+    let s = r % 2 * 4;
+    ((ws[at] >> s) & m) | (((ws[at + 4] >> s) & m) << 4)
+}
+
+// Row r of a planar tile of eight planes; of one with fewer, the others are 0.
+fn planar_row(ws: &[u64; 8], group: usize, r: usize) -> u64
+    requires { ⌜ Small (now ws) × Group group × (r < 8) ⌝ }
+    ensures { λ w. ⌜ w ≡ wordFrom (strands group) (now (ws .entry)) r ⌝ }
 {
     if group == 1 {
-        return p * 8 + i / 8;
+        return one_plane_row(ws, r);
     }
     if group == 2 {
-        return p / 2 * 16 + i / 8 * 2 + p % 2;
+        return pair_row(ws, r);
     }
-    p / 4 * 32 + i / 8 * 4 + p % 4
+    four_row(ws, r)
 }
 
-// Pixel i of a planar tile.
-fn planar_pixel(bytes: &[u8], group: usize, depth: usize, i: usize) -> u8
-    requires { ⌜ Planes group depth × (length (now bytes) ≡ planar group depth 8 8 .bytes .count) × (i < 64) ⌝ }
-    ensures { λ r. ⌜ r ≡ element (planar group depth 8 8 .pixels) (now (bytes .entry)) i ⌝ }
+fn put_plane_rows(bytes: &[u8], group: usize, depth: usize, out: &mut [u8], at: usize)
+    requires { ⌜ UnpacksWhole (Packing.Planar group depth) (now bytes) (now out) at ⌝ }
+    ensures { λ _. ⌜ now (out .exit) ≡ sets (now (out .entry)) at (spread (planar group depth 8 8 .pixels) (now (bytes .entry))) ⌝ }
 {
-    let s = 7 - i % 8;
-    let mut v: u8 = 0;
-    let mut n = 0;
-    while n < depth {
-        let k = planar_place(group, depth, i, depth - (n + 1));
-        v = v * 2 + (bytes[k] >> s) % 2;
-        n += 1;
+    let ws = turned_words(bytes, depth);
+    let mut r = 0;
+    while r < 8 {
+        put_bytes(out, at + r * 8, planar_row(&ws, group, r));
+        r += 1;
     }
-    v
 }
 
-// Pixel i of an ngp tile.
-fn ngp_pixel(bytes: &[u8], i: usize) -> u8
-    requires { ⌜ (length (now bytes) ≡ 16) × (i < 64) ⌝ }
-    ensures { λ r. ⌜ r ≡ element (ngp 8 8 .pixels) (now (bytes .entry)) i ⌝ }
+// Row r of an ngp tile.
+fn ngp_row(ws: &[u64; 8], r: usize) -> u64
+    requires { ⌜ Small (now ws) × (r < 8) ⌝ }
+    ensures { λ w. ⌜ w ≡ wordFrom (ngp 8 8 .pixels) (now (ws .entry)) r ⌝ }
 {
-    (bytes[i / 8 * 2 + (7 - i % 8) / 4] >> ((7 - i % 8) % 4 * 2)) % 4
+    let at = r / 4;
+    let x = ws[at] >> (r % 4 * 16);
+    let y = (((x >> 8) & 0x00000000000000ff) | (x << 32)) & 0x000000ff000000ff;
+    let z = ((y >> 4) | (y << 16)) & 0x000f000f000f000f;
+    ((z >> 2) | (z << 8)) & 0x0303030303030303
 }
 
-// Pixel i of a tile of nibbles.
-fn low_first_pixel(bytes: &[u8], i: usize) -> u8
-    requires { ⌜ (length (now bytes) ≡ 32) × (i < 64) ⌝ }
-    ensures { λ r. ⌜ r ≡ element (lowFirst 8 8 .pixels) (now (bytes .entry)) i ⌝ }
+fn put_ngp_rows(bytes: &[u8], out: &mut [u8], at: usize)
+    requires { ⌜ UnpacksWhole Packing.Ngp (now bytes) (now out) at ⌝ }
+    ensures { λ _. ⌜ now (out .exit) ≡ sets (now (out .entry)) at (spread (ngp 8 8 .pixels) (now (bytes .entry))) ⌝ }
 {
-    (bytes[i / 2] >> (i % 2 * 4)) % 16
+    let ws = words_of(bytes, 2);
+    let mut r = 0;
+    while r < 8 {
+        put_bytes(out, at + r * 8, ngp_row(&ws, r));
+        r += 1;
+    }
 }
 
-fn high_first_pixel(bytes: &[u8], i: usize) -> u8
-    requires { ⌜ (length (now bytes) ≡ 32) × (i < 64) ⌝ }
-    ensures { λ r. ⌜ r ≡ element (highFirst 8 8 .pixels) (now (bytes .entry)) i ⌝ }
+// Row r of a tile of nibbles.
+fn low_first_row(ws: &[u64; 8], r: usize) -> u64
+    requires { ⌜ Small (now ws) × (r < 8) ⌝ }
+    ensures { λ w. ⌜ w ≡ wordFrom (lowFirst 8 8 .pixels) (now (ws .entry)) r ⌝ }
 {
-    (bytes[i / 2] >> ((1 - i % 2) * 4)) % 16
+    let at = r / 2;
+    let x = ws[at] >> (r % 2 * 32);
+    let y = ((x & 0x00000000ffffffff) | (x << 16)) & 0x0000ffff0000ffff;
+    let z = (y | (y << 8)) & 0x00ff00ff00ff00ff;
+    (z | (z << 4)) & 0x0f0f0f0f0f0f0f0f
 }
 
-fn plain_pixel(bytes: &[u8], i: usize) -> u8
-    requires { ⌜ i < length (now bytes) ⌝ }
-    ensures { λ r. ⌜ r ≡ element (plain 8 8 .pixels) (now (bytes .entry)) i ⌝ }
+fn high_first_row(ws: &[u64; 8], r: usize) -> u64
+    requires { ⌜ Small (now ws) × (r < 8) ⌝ }
+    ensures { λ w. ⌜ w ≡ wordFrom (highFirst 8 8 .pixels) (now (ws .entry)) r ⌝ }
 {
-    bytes[i]
+    let at = r / 2;
+    let x = ws[at] >> (r % 2 * 32);
+    let y = ((x & 0x00000000ffffffff) | (x << 16)) & 0x0000ffff0000ffff;
+    let z = (y | (y << 8)) & 0x00ff00ff00ff00ff;
+    ((z >> 4) | (z << 8)) & 0x0f0f0f0f0f0f0f0f
 }
 
-// Pixel i of a sprite.
-fn sprite_pixel(bytes: &[u8], width: usize, height: usize, i: usize) -> u8
-    requires { ⌜ T (isPacking (Packing.Sprite width height)) × (length (now bytes) ≡ sprite width height .bytes .count) × (i < sprite width height .pixels .count) ⌝ }
-    ensures { λ r. ⌜ r ≡ element (sprite width height .pixels) (now (bytes .entry)) i ⌝ }
+fn nibble_row(ws: &[u64; 8], high: bool, r: usize) -> u64
+    requires { ⌜ Small (now ws) × (r < 8) ⌝ }
+    ensures { λ w. ⌜ w ≡ wordFrom (nibbles high .pixels) (now (ws .entry)) r ⌝ }
 {
-    let x = i % width;
-    let y = i / width;
-    let at = (x / 16 * (height / 16) + y / 16) * 128 + y % 16 * 2 + x % 16 / 8;
-    let mut v: u8 = 0;
+    if high {
+        return high_first_row(ws, r);
+    }
+    low_first_row(ws, r)
+}
+
+fn put_nibble_rows(bytes: &[u8], high: bool, out: &mut [u8], at: usize)
+    requires { ⌜ (length (now bytes) ≡ 32) × (at + 64 ≤ length (now out)) ⌝ }
+    ensures { λ _. ⌜ now (out .exit) ≡ sets (now (out .entry)) at (spread (nibbles high .pixels) (now (bytes .entry))) ⌝ }
+{
+    let ws = words_of(bytes, 4);
+    let mut r = 0;
+    while r < 8 {
+        put_bytes(out, at + r * 8, nibble_row(&ws, high, r));
+        r += 1;
+    }
+}
+
+// Eight pixels of a sprite, whose plane bytes stand 32 apart from place k on.
+fn sprite_pixels(bytes: &[u8], k: usize) -> u64
+    requires { ⌜ k + 96 < length (now bytes) ⌝ }
+    ensures { λ r. ⌜ SpritePixels (now (bytes .entry)) k r ⌝ }
+{
+    let mut w: u64 = 0;
     let mut n = 0;
     while n < 4 {
-        v = v * 2 + (bytes[at + (3 - n) * 32] >> (x % 8)) % 2;
+        w = w * 256 + widen(bytes[k + (3 - n) * 32]);
         n += 1;
     }
-    v
+    cross(w)
 }
 
-// Pixel i of the tile with these bytes.
-fn unpacked_pixel(p: Packing, tile: &[u8], i: usize) -> u8
-    requires { ⌜ HasPixel p (now tile) i ⌝ }
-    ensures { λ r. ⌜ r ≡ element (layoutIn p .pixels) (now (tile .entry)) i ⌝ }
+// Row y of a sprite.
+fn put_sprite_row(bytes: &[u8], width: usize, height: usize, y: usize, out: &mut [u8], at: usize)
+    requires { ⌜ T (isPacking (Packing.Sprite width height)) × (length (now bytes) ≡ byteCount (Packing.Sprite width height)) × (y < height) × (at + width ≤ length (now out)) ⌝ }
+    ensures { λ _. ⌜ now (out .exit) ≡ sets (now (out .entry)) at (each width (λ x. element (sprite width height .pixels) (now (bytes .entry)) (y * width + x) ∷ [])) ⌝ }
 {
-    match p {
-        Packing::Planar { group, depth } => planar_pixel(tile, group, depth, i),
-        Packing::Ngp => ngp_pixel(tile, i),
-        Packing::LowFirst => low_first_pixel(tile, i),
-        Packing::HighFirst => high_first_pixel(tile, i),
-        Packing::Plain => plain_pixel(tile, i),
-        Packing::Sprite { width, height } => sprite_pixel(tile, width, height, i),
+    let column = height / 16 * 128;
+    let row = y / 16 * 128 + y % 16 * 2;
+    let n = width / 8;
+    let mut x = 0;
+    while x < n {
+        put_bytes(
+            out,
+            at + x * 8,
+            sprite_pixels(bytes, x / 2 * column + row + x % 2),
+        );
+        x += 1;
+    }
+}
+
+fn put_sprite_rows(bytes: &[u8], width: usize, height: usize, out: &mut [u8], at: usize)
+    requires { ⌜ UnpacksWhole (Packing.Sprite width height) (now bytes) (now out) at ⌝ }
+    ensures { λ _. ⌜ now (out .exit) ≡ sets (now (out .entry)) at (spread (sprite width height .pixels) (now (bytes .entry))) ⌝ }
+{
+    let mut y = 0;
+    while y < height {
+        put_sprite_row(bytes, width, height, y, out, at + y * width);
+        y += 1;
     }
 }
 
@@ -285,11 +598,13 @@ pub fn put_pixels(p: Packing, bytes: &[u8], from: usize, out: &mut [u8], at: usi
 {
     let end = from + byte_count(p);
     let tile = &bytes[from..end];
-    let n = pixel_count(p);
-    let mut i = 0;
-    while i < n {
-        out[at + i] = unpacked_pixel(p, tile, i);
-        i += 1;
+    match p {
+        Packing::Planar { group, depth } => put_plane_rows(tile, group, depth, out, at),
+        Packing::Ngp => put_ngp_rows(tile, out, at),
+        Packing::LowFirst => put_nibble_rows(tile, false, out, at),
+        Packing::HighFirst => put_nibble_rows(tile, true, out, at),
+        Packing::Plain => words::put(out, at, tile),
+        Packing::Sprite { width, height } => put_sprite_rows(tile, width, height, out, at),
     }
 }
 
@@ -428,15 +743,14 @@ pub fn some_too_large(depth: u32, pixels: &[u8], count: usize) -> bool
     if depth == 8 {
         return false;
     }
-    let limit = words::up(1, depth);
+    // The bits of all: they reach the limit exactly where some pixel does.
+    let mut bits: u8 = 0;
     let mut i = 0;
     while i < count {
-        if limit <= words::wide(pixels[i]) {
-            return true;
-        }
+        bits = bits | pixels[i];
         i += 1;
     }
-    false
+    words::up(1, depth) <= words::wide(bits)
 }
 
 fn pack_says(mode: u32, depth: u32, width: u32, height: u32, pixels: &[u8], space: usize) -> u32

@@ -1,81 +1,134 @@
--- `tile::put_pixels` meets its contract: the loop stores each pixel of the layout in turn.
+-- `tile::put_pixels` meets its contract: each arm stores what its packing says.
 -- Assumes nothing.
-use mathlib.Core.Path.{_≡_, ap, _∙_}
-use mathlib.Core.List.{[], _∷_}
-use Prim.Native.Nat.{ℕ, _≤_, _-_, _+_}
+use mathlib.Core.Path.{ap, _∙_}
+use mathlib.Core.List.{List}
+use Prim.Native.Nat.{ℕ, _+_, _-_}
 use native.Mathlib.Omega.{arith}
-use lib.ListN.{take, drop, length}
+use lib.ListN.{take, drop}
 use lib.Seq.{sets}
 use borrow.Author.Needs.{needs}
-use Rattle.tile.specs.Layout.{element, spread}
-use Rattle.tile.specs.Packings.{layoutIn}
 use Rattle.tile.specs.Inner.{byteCount}
-use Rattle.words.proofs.Filling.{Filled, filled-none, filled-one}
-use Rattle.tile.proofs.Filling.{filled-table, length-part}
+use Rattle.tile.specs.declared.Packing.the-variants.{Planar, Ngp, LowFirst, HighFirst, Plain, Sprite}
+use Rattle.tile.proofs.Filling.{part-small}
+use Rattle.tile.proofs.Packings.{unpacks-in, same-pixels, unpacks-whole}
+use Rattle.tile.proofs.Packed.{plain-pixels}
 use Rattle.tile.proofs.put_pixels.Statement.{statement}
 use Rattle.tile.proofs.put_pixels.Tie as tie
 
-abbrev Inv-loop : tie.InvT-loop
-Inv-loop p bytes from out₀ at end tile n i₀ out i = (i ≤ n) × Filled (λ j. element (layoutIn p .pixels) tile j ∷ []) out₀ at i out
+put-plane-rows-requires : tie.Need-put-plane-rows-requires
+put-plane-rows-requires c κs =
+    let t = c .before .before .p .given in
+    unpacks-in (Planar (t .0 .0) (t .0 .1 .0)) (t .1) (unpacks-whole (c .before .before .before .before .before .before .before .before .pre) (c .before .before .before .before .before .byte-count .ensures))
 
-abbrev μ-loop : tie.MeasureT-loop
-μ-loop p bytes from out₀ at end tile n i₀ out i = n - i
+put-ngp-rows-requires : tie.Need-put-ngp-rows-requires
+put-ngp-rows-requires c κs =
+    let t = c .before .enum-told .given in
+    unpacks-in Ngp (t .1) (unpacks-whole (c .before .before .before .before .before .before .before .pre) (c .before .before .before .before .byte-count .ensures))
 
--- as many as the tile has
-whole : (from n m : ℕ) → n ≡ m → from + n - from ≡ m
-whole from n m e = omega arith
+put-nibble-rows-requires : tie.Need-put-nibble-rows-requires
+put-nibble-rows-requires c κs =
+    let t = c .before .enum-told2 .given in
+    let h = unpacks-in LowFirst (t .1) (unpacks-whole (c .before .before .before .before .before .before .before .pre) (c .before .before .before .before .byte-count .ensures)) in
+    (h .whole, h .space)
 
-loop-holds : tie.Need-loop-holds Inv-loop μ-loop
-loop-holds c = (search needs, filled-none _ _ _)
+put-nibble-rows-requires-2 : tie.Need-put-nibble-rows-requires-2
+put-nibble-rows-requires-2 c κs =
+    let t = c .before .enum-told3 .given in
+    let h = unpacks-in HighFirst (t .1) (unpacks-whole (c .before .before .before .before .before .before .before .pre) (c .before .before .before .before .byte-count .ensures)) in
+    (h .whole, h .space)
 
-unpacked-pixel-requires : tie.Need-unpacked-pixel-requires Inv-loop μ-loop
-unpacked-pixel-requires c κs =
-    let s = c .before .before .before .before .before .before .before in
-    let a = s .args in
-    let e = whole (a .from) (c .before .before .before .before .byte-count .result) (byteCount (a .p)) (c .before .before .before .before .byte-count .ensures) in
-    record {
-      sound = s .pre .sound;
-      whole = ap (λ (n : ℕ). length (take n (drop (a .from) (a .bytes .now)))) e ∙ length-part (a .bytes .now) (a .from) (byteCount (a .p)) (s .pre .inside);
-      within = omega (arith, c .before .before .pixel-count .ensures);
-    }
+put-requires : tie.Need-put-requires
+put-requires c κs =
+    let t = c .before .enum-told4 .given in
+    let h = unpacks-in Plain (t .1) (unpacks-whole (c .before .before .before .before .before .before .before .pre) (c .before .before .before .before .byte-count .ensures)) in
+    omega (arith, h .whole, h .space)
 
-slice-write-out : tie.Need-slice-write-out Inv-loop μ-loop
-slice-write-out c = omega arith
+put-sprite-rows-requires : tie.Need-put-sprite-rows-requires
+put-sprite-rows-requires c κs =
+    let t = c .before .before .p2 .given in
+    unpacks-in (Sprite (t .0 .0) (t .0 .1 .0)) (t .1) (unpacks-whole (c .before .before .before .before .before .before .before .before .pre) (c .before .before .before .before .before .byte-count .ensures))
 
-loop-less : tie.Need-loop-less Inv-loop μ-loop
-loop-less c = search needs
-
-loop-again : tie.Need-loop-again Inv-loop μ-loop
-loop-again c = (omega arith, filled-one (c .before .before .loop .inv .1) (c .unpacked-pixel .ensures))
-
-same-length : tie.Need-same-length Inv-loop μ-loop
-same-length c = c .before .loop .inv .1 .long
-
-returns : tie.Need-returns Inv-loop μ-loop
-unfolding spread
+returns : tie.Need-returns
 returns c =
-    let a = c .before .before .before .before .before .before .before .args in
-    let e = whole (a .from) (c .before .before .before .before .byte-count .result) (byteCount (a .p)) (c .before .before .before .before .byte-count .ensures) in
-    filled-table (layoutIn (a .p) .pixels .count) (c .before .loop .inv .1) (omega (arith, c .before .before .pixel-count .ensures)) ∙ ap (λ (n : ℕ). sets (a .out .now) (a .at) (spread (layoutIn (a .p) .pixels) (take n (drop (a .from) (a .bytes .now))))) e
+    let s = c .before .before .before .before .before .before .before .before .before .before .before in
+    let a = s .args in
+    let n = c .before .before .before .before .before .before .before .before .byte-count in
+    let t = c .before .before .before .before .before .p .given in
+    c .before .before .put-plane-rows .ensures ∙ same-pixels (Planar (t .0 .0) (t .0 .1 .0)) (t .1) (a .bytes .now) (a .out .now) (a .at) (a .from) (n .result) (n .ensures)
+
+returns-2 : tie.Need-returns-2
+returns-2 c =
+    let s = c .before .before .before .before .before .before .before .before .before .before in
+    let a = s .args in
+    let n = c .before .before .before .before .before .before .before .byte-count in
+    let t = c .before .before .before .before .enum-told .given in
+    c .before .before .put-ngp-rows .ensures ∙ same-pixels Ngp (t .1) (a .bytes .now) (a .out .now) (a .at) (a .from) (n .result) (n .ensures)
+
+returns-3 : tie.Need-returns-3
+returns-3 c =
+    let s = c .before .before .before .before .before .before .before .before .before .before in
+    let a = s .args in
+    let n = c .before .before .before .before .before .before .before .byte-count in
+    let t = c .before .before .before .before .enum-told2 .given in
+    c .before .before .put-nibble-rows .ensures ∙ same-pixels LowFirst (t .1) (a .bytes .now) (a .out .now) (a .at) (a .from) (n .result) (n .ensures)
+
+returns-4 : tie.Need-returns-4
+returns-4 c =
+    let s = c .before .before .before .before .before .before .before .before .before .before in
+    let a = s .args in
+    let n = c .before .before .before .before .before .before .before .byte-count in
+    let t = c .before .before .before .before .enum-told3 .given in
+    c .before .before .put-nibble-rows2 .ensures ∙ same-pixels HighFirst (t .1) (a .bytes .now) (a .out .now) (a .at) (a .from) (n .result) (n .ensures)
+
+returns-5 : tie.Need-returns-5
+returns-5 c =
+    let s = c .before .before .before .before .before .before .before .before .before .before in
+    let a = s .args in
+    let n = c .before .before .before .before .before .before .before .byte-count in
+    let t = c .before .before .before .before .enum-told4 .given in
+    let h = unpacks-in Plain (t .1) (unpacks-whole (s .pre) (n .ensures)) in
+    let tile = take (a .from + n .result - a .from) (drop (a .from) (a .bytes .now)) in
+    c .before .before .put .ensures
+    ∙ ap (λ (l : List ℕ). sets (a .out .now) (a .at) l) (plain-pixels tile (h .whole) (λ i l. part-small (a .bytes .now) (a .from) (a .from + n .result - a .from) i (λ i. c .before .before .before .before .before .before .before .before .before .shared-slice-known .given i .fits) (omega (arith, n .ensures, ap byteCount (t .1))))) ∙ same-pixels Plain (t .1) (a .bytes .now) (a .out .now) (a .at) (a .from) (n .result) (n .ensures)
+
+returns-6 : tie.Need-returns-6
+returns-6 c =
+    let s = c .before .before .before .before .before .before .before .before .before .before .before in
+    let a = s .args in
+    let n = c .before .before .before .before .before .before .before .before .byte-count in
+    let t = c .before .before .before .before .before .p2 .given in
+    c .before .before .put-sprite-rows .ensures ∙ same-pixels (Sprite (t .0 .0) (t .0 .1 .0)) (t .1) (a .bytes .now) (a .out .now) (a .at) (a .from) (n .result) (n .ensures)
 
 pub put-pixels-spec : {M : Type 1} → statement M
 put-pixels-spec =
     tie.close
     (tie.spec
-    Inv-loop
-    μ-loop
     (λ c κs. search needs)
     (λ c. search needs)
     (λ c. search needs)
     (λ c. search needs)
     (λ c. search needs)
-    (λ c κs. search needs)
-    loop-holds
-    unpacked-pixel-requires
     (λ c. search needs)
-    slice-write-out
+    put-plane-rows-requires
     (λ c. search needs)
-    loop-less
-    loop-again
-    same-length
-    returns)
+    put-ngp-rows-requires
+    (λ c. search needs)
+    put-nibble-rows-requires
+    (λ c. search needs)
+    put-nibble-rows-requires-2
+    (λ c. search needs)
+    put-requires
+    (λ c. search needs)
+    put-sprite-rows-requires
+    (λ c. search needs)
+    returns
+    (λ c. search needs)
+    returns-2
+    (λ c. search needs)
+    returns-3
+    (λ c. search needs)
+    returns-4
+    (λ c. search needs)
+    returns-5
+    (λ c. search needs)
+    returns-6)

@@ -1,0 +1,225 @@
+-- The words that the code makes, written out, and by computed tests that they are those of the layouts.
+-- Assumes nothing.
+use mathlib.Core.Path.{_≡_, refl, ap, _∙_}
+use mathlib.Core.Bool.{Bool}
+use mathlib.Core.List.{List, [], _∷_}
+use Prim.Native.Nat.{ℕ, zero, suc, _+_, _-_, _*_, _/_, _%_, _^_, _<_}
+use native.Mathlib.Omega.{arith}
+use lib.Dec.{T, ltb}
+use lib.ListN.{getD}
+use lib.Pow.{pow-pos}
+use Rattle.words.specs.Inner.{all}
+use Rattle.words.proofs.Loops.{all-at}
+use Rattle.tile.specs.Layout.{Side}
+use Rattle.tile.specs.Packings.{planar, ngp, lowFirst, highFirst}
+use Rattle.tile.specs.Inner.{Small, wordFrom, turn, exchange, strands, cell, crossed, flipped}
+use Rattle.tile.proofs.Wiring.{Wire, given, down, up, keep, join, value, pick, merge, origin, isFrom, suits, isWiredIn, wired-in}
+
+-- the wire of each of n words is as the side says
+unfoldable pub isSide : Side → ℕ → (ℕ → Wire) → Bool
+isSide s n w =
+    all n
+    (λ b. isWiredIn 64 (w b) (λ j. ltb (j % 8) (s .bits)) (λ j. s .from (b * 8 + j / 8) (j % 8) / 8)
+    (λ j. s .from (b * 8 + j / 8) (j % 8) % 8 * 8 + s .place (b * 8 + j / 8) (j % 8)))
+
+pub word-is : (s : Side) (n : ℕ) (w : ℕ → Wire) → T (isSide s n w) → (ws : List ℕ) → Small ws → (b : ℕ) → b < n → value (λ i. getD ws i 0) (w b) ≡ wordFrom s ws b
+unfolding isSide wordFrom
+word-is s n w t ws h b l =
+    wired-in 64 (w b) (λ j. ltb (j % 8) (s .bits)) (λ j. s .from (b * 8 + j / 8) (j % 8) / 8) (λ j. s .from (b * 8 + j / 8) (j % 8) % 8 * 8 + s .place (b * 8 + j / 8) (j % 8))
+    (all-at n (λ b. isWiredIn 64 (w b) (λ j. ltb (j % 8) (s .bits)) (λ j. s .from (b * 8 + j / 8) (j % 8) / 8) (λ j. s .from (b * 8 + j / 8) (j % 8) % 8 * 8 + s .place (b * 8 + j / 8) (j % 8))) t b l)
+    (omega arith) (λ i. getD ws i 0) h
+
+-- ---- turning
+
+unfoldable pub swap : ℕ → ℕ → ℕ → Wire → Wire
+swap c m s w = join (join (keep w c) (up (keep w m) s)) (keep (down w s) m)
+
+unfoldable pub cross : Wire → Wire
+cross w = swap 0xf0f0f0f00f0f0f0f 0x00000000f0f0f0f0 28 (swap 0xcccc3333cccc3333 0x0000cccc0000cccc 14 (swap 0xaa55aa55aa55aa55 0x00aa00aa00aa00aa 7 w))
+
+unfoldable pub trade : ℕ → ℕ → Wire → Wire
+trade m s w = join (up (keep w m) s) (keep (down w s) m)
+
+unfoldable pub flip : Wire → Wire
+flip w = let b : Wire = trade 0x0000ffff0000ffff 16 (trade 0x00ff00ff00ff00ff 8 w) in join (up b 32) (down b 32)
+
+pub cross-value : (e : ℕ → ℕ) (w : Wire) → crossed (value e w) ≡ value e (cross w)
+unfolding crossed value cross swap
+cross-value e w = refl
+
+pub flip-value : (e : ℕ → ℕ) (w : Wire) → flipped (value e w) ≡ value e (flip w)
+unfolding flipped value flip trade
+flip-value e w = refl
+
+turned-wire : T (isSide turn 1 (λ b. flip (cross (given 0))))
+unfolding isSide isWiredIn cross flip swap trade origin pick merge isFrom suits
+turned-wire = tt
+
+crossed-wire : T (isSide exchange 1 (λ b. cross (given 0)))
+unfolding isSide isWiredIn cross swap origin pick merge isFrom suits
+crossed-wire = tt
+
+one-small : (v : ℕ) → v < 2 ^ 64 → Small (v ∷ [])
+one-small v l zero = l
+one-small v l (suc i) = pow-pos 64
+
+pub crossed-is : (v : ℕ) → v < 2 ^ 64 → crossed v ≡ wordFrom exchange (v ∷ []) 0
+unfolding value
+crossed-is v l =
+    let e : ℕ → ℕ = λ i. getD (v ∷ []) i 0 in
+    cross-value e (given 0) ∙ word-is exchange 1 (λ b. cross (given 0)) crossed-wire (v ∷ []) (one-small v l) 0 (omega arith)
+
+pub turned-is : (v : ℕ) → v < 2 ^ 64 → flipped (crossed v) ≡ wordFrom turn (v ∷ []) 0
+unfolding value
+turned-is v l =
+    let e : ℕ → ℕ = λ i. getD (v ∷ []) i 0 in
+    ap flipped (cross-value e (given 0)) ∙ flip-value e (cross (given 0))
+    ∙ word-is turn 1 (λ b. flip (cross (given 0))) turned-wire (v ∷ []) (one-small v l) 0 (omega arith)
+
+-- ---- planes: g bits of each byte of 8 / g words, and g bytes of each
+
+-- word i, moved down by s, as far as m keeps it, and up by u
+unfoldable pub part : ℕ → ℕ → ℕ → ℕ → Wire
+part i s m u = up (keep (down (given i) s) m) u
+
+unfoldable pub one : ℕ → ℕ → ℕ → Wire
+one i s m = keep (down (given i) s) m
+
+-- the words at, at + 1, ..
+unfoldable pub eight : ℕ → ℕ → ℕ → Wire
+eight at s m =
+    join (join (join (join (join (join (join (one at s m) (part (at + 1) s m 1)) (part (at + 2) s m 2)) (part (at + 3) s m 3)) (part (at + 4) s m 4)) (part (at + 5) s m 5)) (part (at + 6) s m 6)) (part (at + 7) s m 7)
+
+-- the words at, at + n, ..
+unfoldable pub four : ℕ → ℕ → ℕ → ℕ → ℕ → Wire
+four at n s m u = join (join (join (one at s m) (part (at + n) s m u)) (part (at + n * 2) s m (u * 2))) (part (at + n * 3) s m (u * 3))
+
+unfoldable pub two : ℕ → ℕ → ℕ → ℕ → ℕ → Wire
+two at n s m u = join (one at s m) (part (at + n) s m u)
+
+unfoldable pub ones : ℕ → Wire
+ones b = cross (flip (eight 0 b 0x0101010101010101))
+
+unfoldable pub pairs : ℕ → Wire
+pairs b = cross (flip (four (b % 2 * 4) 1 (b / 2 * 2) 0x0303030303030303 2))
+
+unfoldable pub fours : ℕ → Wire
+fours b = cross (flip (two (b % 4 * 2) 1 (b / 4 * 4) 0x0f0f0f0f0f0f0f0f 4))
+
+unfoldable pub oneRow : ℕ → Wire
+oneRow r = eight 0 r 0x0101010101010101
+
+unfoldable pub pairRow : ℕ → Wire
+pairRow r = four (r / 4) 2 (r % 4 * 2) 0x0303030303030303 2
+
+unfoldable pub fourRow : ℕ → Wire
+fourRow r = two (r / 2) 4 (r % 2 * 4) 0x0f0f0f0f0f0f0f0f 4
+
+unfoldable pub cellPlane : ℕ → Wire
+cellPlane b = cross (eight (b % 4 * 8) (b / 4) 0x0101010101010101)
+
+pub ones-are : T (isSide (planar 1 8 8 8 .bytes) 8 ones)
+unfolding isSide isWiredIn ones eight one part cross flip swap trade origin pick merge isFrom suits
+ones-are = tt
+
+pub pairs-are : T (isSide (planar 2 8 8 8 .bytes) 8 pairs)
+unfolding isSide isWiredIn pairs four one part cross flip swap trade origin pick merge isFrom suits
+pairs-are = tt
+
+pub fours-are : T (isSide (planar 4 8 8 8 .bytes) 8 fours)
+unfolding isSide isWiredIn fours two one part cross flip swap trade origin pick merge isFrom suits
+fours-are = tt
+
+pub one-row-is : T (isSide (strands 1) 8 oneRow)
+unfolding isSide isWiredIn oneRow eight one part origin pick merge isFrom suits
+one-row-is = tt
+
+pub pair-row-is : T (isSide (strands 2) 8 pairRow)
+unfolding isSide isWiredIn pairRow four one part origin pick merge isFrom suits
+pair-row-is = tt
+
+pub four-row-is : T (isSide (strands 4) 8 fourRow)
+unfolding isSide isWiredIn fourRow two one part origin pick merge isFrom suits
+four-row-is = tt
+
+pub cell-plane-is : T (isSide cell 16 cellPlane)
+unfolding isSide isWiredIn cellPlane eight one part cross swap origin pick merge isFrom suits
+cell-plane-is = tt
+
+-- ---- nibbles and ngp
+
+-- w with what is s places up, as far as m keeps them; and with what is u places down beside it
+unfoldable pub fold : ℕ → ℕ → Wire → Wire
+fold s m w = keep (join w (down w s)) m
+
+unfoldable pub close : ℕ → ℕ → ℕ → Wire → Wire
+close u s m w = keep (join (up w u) (down w s)) m
+
+unfoldable pub bytes4 : Wire → Wire
+bytes4 w = let x : Wire = fold 8 0x0000ffff0000ffff w in join x (down x 16)
+
+unfoldable pub lowBytes : ℕ → Wire
+lowBytes i = bytes4 (fold 4 0x00ff00ff00ff00ff (keep (given i) 0x0f0f0f0f0f0f0f0f))
+
+unfoldable pub highBytes : ℕ → Wire
+highBytes i = bytes4 (close 4 8 0x00ff00ff00ff00ff (keep (given i) 0x0f0f0f0f0f0f0f0f))
+
+unfoldable pub ngpBytes : ℕ → Wire
+ngpBytes i = let c : Wire = close 4 16 0x000000ff000000ff (close 2 8 0x000f000f000f000f (keep (given i) 0x0303030303030303)) in join (up c 8) (down c 32)
+
+unfoldable pub lows : ℕ → Wire
+lows b = join (keep (lowBytes (b * 2)) 0x00000000ffffffff) (up (lowBytes (b * 2 + 1)) 32)
+
+unfoldable pub highs : ℕ → Wire
+highs b = join (keep (highBytes (b * 2)) 0x00000000ffffffff) (up (highBytes (b * 2 + 1)) 32)
+
+unfoldable pub ngps : ℕ → Wire
+ngps b =
+    let m : ℕ = 0x000000000000ffff in
+    join (join (join (keep (ngpBytes (b * 4)) m) (up (keep (ngpBytes (b * 4 + 1)) m) 16)) (up (keep (ngpBytes (b * 4 + 2)) m) 32)) (up (ngpBytes (b * 4 + 3)) 48)
+
+unfoldable pub widenBy : ℕ → ℕ → Wire → Wire
+widenBy s m w = keep (join w (up w s)) m
+
+unfoldable pub apart : ℕ → Wire
+apart r =
+    let x : Wire = down (given (r / 2)) (r % 2 * 32) in
+    widenBy 8 0x00ff00ff00ff00ff (keep (join (keep x 0x00000000ffffffff) (up x 16)) 0x0000ffff0000ffff)
+
+unfoldable pub lowRow : ℕ → Wire
+lowRow r = widenBy 4 0x0f0f0f0f0f0f0f0f (apart r)
+
+unfoldable pub spreadBy : ℕ → ℕ → ℕ → Wire → Wire
+spreadBy s u m w = keep (join (down w s) (up w u)) m
+
+unfoldable pub highRow : ℕ → Wire
+highRow r = spreadBy 4 8 0x0f0f0f0f0f0f0f0f (apart r)
+
+unfoldable pub ngpRow : ℕ → Wire
+ngpRow r =
+    let x : Wire = down (given (r / 4)) (r % 4 * 16) in
+    spreadBy 2 8 0x0303030303030303 (spreadBy 4 16 0x000f000f000f000f (keep (join (keep (down x 8) 0x00000000000000ff) (up x 32)) 0x000000ff000000ff))
+
+pub lows-are : T (isSide (lowFirst 8 8 .bytes) 4 lows)
+unfolding isSide isWiredIn lows lowBytes bytes4 fold origin pick merge isFrom suits
+lows-are = tt
+
+pub highs-are : T (isSide (highFirst 8 8 .bytes) 4 highs)
+unfolding isSide isWiredIn highs highBytes bytes4 fold close origin pick merge isFrom suits
+highs-are = tt
+
+pub ngps-are : T (isSide (ngp 8 8 .bytes) 2 ngps)
+unfolding isSide isWiredIn ngps ngpBytes close origin pick merge isFrom suits
+ngps-are = tt
+
+pub low-row-is : T (isSide (lowFirst 8 8 .pixels) 8 lowRow)
+unfolding isSide isWiredIn lowRow apart widenBy origin pick merge isFrom suits
+low-row-is = tt
+
+pub high-row-is : T (isSide (highFirst 8 8 .pixels) 8 highRow)
+unfolding isSide isWiredIn highRow apart widenBy spreadBy origin pick merge isFrom suits
+high-row-is = tt
+
+pub ngp-row-is : T (isSide (ngp 8 8 .pixels) 8 ngpRow)
+unfolding isSide isWiredIn ngpRow spreadBy origin pick merge isFrom suits
+ngp-row-is = tt

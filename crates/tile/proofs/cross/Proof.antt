@@ -1,0 +1,13 @@
+-- `tile::cross` meets its contract, which says its exchanges.
+-- Assumes nothing.
+use mathlib.Core.Path.{refl}
+use Rattle.tile.specs.Inner.{crossed}
+use Rattle.tile.proofs.cross.Statement.{statement}
+use Rattle.tile.proofs.cross.Tie as tie
+
+returns : tie.Need-returns
+unfolding crossed
+returns c = refl
+
+pub cross-spec : {M : Type 1} → statement M
+cross-spec = tie.close (tie.spec returns)
