@@ -96,17 +96,17 @@ pub record Sized (w h : ℕ) : Type 0 where
   pub down : 0 < h / 16
   pub tall : h ≤ 64
   pub few : w * h ≤ 2048
-  pub eights : w % 8 ≡ 0
+  pub sixteens : w % 16 ≡ 0
   pub cells : w / 16 * (h / 16) * 128 ≡ w * h * 4 / 8
 
 abbrev sizeTest : ℕ → ℕ → Bool
 sizeTest w h =
-    ltb 0 w && (leb w 32 && (ltb 0 (h / 16) && (leb h 64 && (leb (w * h) 2048 && (eqb (w % 8) 0 && eqb (w / 16 * (h / 16) * 128) (w * h * 4 / 8))))))
+    ltb 0 w && (leb w 32 && (ltb 0 (h / 16) && (leb h 64 && (leb (w * h) 2048 && (eqb (w % 16) 0 && eqb (w / 16 * (h / 16) * 128) (w * h * 4 / 8))))))
 
 pub sized-of : (w h : ℕ) → T (isPacking (Sprite w h)) → Sized w h
 sized-of w h t =
     let here : T (sizeTest w h) = sizes-at sizeTest tt w h t in
-    let e = eqb (w % 8) 0 && eqb (w / 16 * (h / 16) * 128) (w * h * 4 / 8) in
+    let e = eqb (w % 16) 0 && eqb (w / 16 * (h / 16) * 128) (w * h * 4 / 8) in
     let d = leb (w * h) 2048 && e in
     let c = leb h 64 && d in
     let b = ltb 0 (h / 16) && c in
@@ -122,11 +122,11 @@ sized-of w h t =
       down = ltb→lt 0 (h / 16) (both-left (ltb 0 (h / 16)) c tb);
       tall = leb→le h 64 (both-left (leb h 64) d tc);
       few = leb→le (w * h) 2048 (both-left (leb (w * h) 2048) e td);
-      eights = eqb→eq (w % 8) 0 (both-left (eqb (w % 8) 0) (eqb (w / 16 * (h / 16) * 128) (w * h * 4 / 8)) te);
-      cells = eqb→eq (w / 16 * (h / 16) * 128) (w * h * 4 / 8) (both-right (eqb (w % 8) 0) (eqb (w / 16 * (h / 16) * 128) (w * h * 4 / 8)) te);
+      sixteens = eqb→eq (w % 16) 0 (both-left (eqb (w % 16) 0) (eqb (w / 16 * (h / 16) * 128) (w * h * 4 / 8)) te);
+      cells = eqb→eq (w / 16 * (h / 16) * 128) (w * h * 4 / 8) (both-right (eqb (w % 16) 0) (eqb (w / 16 * (h / 16) * 128) (w * h * 4 / 8)) te);
     }
 
--- where a cell's first pixel stands, its last is within the sprite; and where the first plane has eight pixels, the last has them too
+-- where a cell's first pixel stands, its last is within the sprite; and where a row of a cell begins in the first plane, it ends in the last
 abbrev pub cellFrom : ℕ → ℕ → ℕ → ℕ
 cellFrom w h c = (c % (h / 16) * w + c / (h / 16)) * 16
 
@@ -135,14 +135,14 @@ cell-inside w h c t l =
     let test : ℕ → ℕ → ℕ → Bool = λ w h c. leb (cellFrom w h c + 15 * w + 16) (w * h) in
     leb→le (cellFrom w h c + 15 * w + 16) (w * h) (all-at (w / 16 * (h / 16)) (test w h) (sizes-at (λ (w h : ℕ). all (w / 16 * (h / 16)) (test w h)) tt w h t) c l)
 
-abbrev pub planeAt : ℕ → ℕ → ℕ → ℕ
-planeAt h y x = x / 2 * (h / 16 * 128) + (y / 16 * 128 + y % 16 * 2) + x % 2
+abbrev pub rowAt : ℕ → ℕ → ℕ → ℕ
+rowAt h y x = x * (h / 16 * 128) + (y / 16 * 128 + y % 16 * 2)
 
-pub planes-inside : (w h y x : ℕ) → T (isPacking (Sprite w h)) → y < h → x < w / 8 → planeAt h y x + 96 < w * h * 4 / 8
+pub planes-inside : (w h y x : ℕ) → T (isPacking (Sprite w h)) → y < h → x < w / 16 → rowAt h y x + 97 < w * h * 4 / 8
 planes-inside w h y x t ly lx =
-    let test : ℕ → ℕ → ℕ → ℕ → Bool = λ w h y x. ltb (planeAt h y x + 96) (w * h * 4 / 8) in
-    let rows : T (all h (λ y. all (w / 8) (test w h y))) = sizes-at (λ (w h : ℕ). all h (λ y. all (w / 8) (test w h y))) tt w h t in
-    ltb→lt (planeAt h y x + 96) (w * h * 4 / 8) (all-at (w / 8) (test w h y) (all-at h (λ y. all (w / 8) (test w h y)) rows y ly) x lx)
+    let test : ℕ → ℕ → ℕ → ℕ → Bool = λ w h y x. ltb (rowAt h y x + 97) (w * h * 4 / 8) in
+    let rows : T (all h (λ y. all (w / 16) (test w h y))) = sizes-at (λ (w h : ℕ). all h (λ y. all (w / 16) (test w h y))) tt w h t in
+    ltb→lt (rowAt h y x + 97) (w * h * 4 / 8) (all-at (w / 16) (test w h y) (all-at h (λ y. all (w / 16) (test w h y)) rows y ly) x lx)
 
 -- ---- a part that is a whole tile
 

@@ -5,10 +5,10 @@ use mathlib.Core.Bool.{Bool, true, false, not}
 use mathlib.Core.List.{List}
 use mathlib.Core.Logic.{⊎-elim}
 use Prim.Native.Nat.{ℕ, zero, suc, _+_, _-_, _*_, _/_, _%_, _^_, _≤_, _<_}
-use native.Mathlib.Nat.{lt-of-lt-of-le, eq-zero-or-pos, zero-div, zero-add}
+use native.Mathlib.Nat.{eq-zero-or-pos, zero-div, zero-add}
 use native.Mathlib.Omega.{arith}
 use lib.Dec.{T, ltb}
-use lib.Pow.{pow-mono, pow-pos}
+use lib.Pow.{pow-pos}
 use lib.ListN.{List·getD-eq-default, length, getD}
 use borrow.Author.Tests.{le-ltb, lt-ltb}
 use Rattle.tile.specs.Bits.{bitOf, fromBits}
@@ -40,7 +40,7 @@ unfolding fromBits
 bits-zero zero at f h = refl
 bits-zero (suc n) at f h = ap₂ (λ (x y : ℕ). x + 2 * y) (h at (omega arith) (omega arith)) (bits-zero n (suc at) f (λ j l m. h j (omega arith) (omega arith)))
 
-pub bits-short : (n d : ℕ) (f : ℕ → ℕ) → d ≤ n → ((j : ℕ) → d ≤ j → j < n → f j ≡ 0) → fromBits n 0 f ≡ fromBits d 0 f
+bits-short : (n d : ℕ) (f : ℕ → ℕ) → d ≤ n → ((j : ℕ) → d ≤ j → j < n → f j ≡ 0) → fromBits n 0 f ≡ fromBits d 0 f
 bits-short n d f l h =
     ap (λ (k : ℕ). fromBits k 0 f) (omega arith) ∙ bits-split d (n - d) 0 f
     ∙ ap (λ (x : ℕ). fromBits d 0 f + 2 ^ d * x) (bits-zero (n - d) (0 + d) f (λ j a b. h j (omega arith) (omega arith))) ∙ omega arith

@@ -1,10 +1,10 @@
--- Words that were turned once give the rows of every plane, at each depth and in each group; and the planes of a sprite's pixels.
+-- Words that were turned once give the rows of every plane, at each depth and in each group; and the halves of a row of a sprite's cell.
 -- Assumes nothing.
 use mathlib.Core.Path.{_≡_, sym, ap, ap₂, _∙_, subst}
 use mathlib.Core.Bool.{Bool, _&&_}
 use mathlib.Core.List.{List, [], _∷_}
 use mathlib.Core.Logic.{⊎-elim}
-use Prim.Native.Nat.{ℕ, _+_, _-_, _*_, _/_, _%_, _^_, _≤_, _<_}
+use Prim.Native.Nat.{ℕ, _+_, _-_, _*_, _/_, _%_, _^_, _<_}
 use native.Mathlib.Nat.{eq-zero-or-pos, zero-div, zero-add}
 use native.Mathlib.Omega.{arith}
 use lib.Dec.{T, ltb, eqb, ltb→lt}
@@ -15,14 +15,13 @@ use Rattle.mode.specs.Table.{oneOf}
 use Rattle.tile.specs.Bits.{bitOf, fromBits}
 use Rattle.tile.specs.Layout.{element}
 use Rattle.tile.specs.Packings.{planar}
-use Rattle.tile.specs.Inner.{isPacking, wide, wordAt, byteIn, byteOf, Reads, Turned, wordFrom, HasWord, turn, exchange, strands, spritePixel, crossed, flipped}
-use Rattle.tile.specs.declared.Packing.{Packing}
+use Rattle.tile.specs.Inner.{isPacking, wide, wordAt, byteIn, byteOf, Reads, Turned, wordFrom, HasWord, turn, strands, rowByte, half, crossed, flipped}
 use Rattle.tile.specs.declared.Packing.the-variants.{Planar}
 use Rattle.tile.proofs.Bits.{bit-lt, bits-same, bit-of-bits}
-use Rattle.tile.proofs.Wide.{wide-byte, wide-above, wide-full}
-use Rattle.tile.proofs.Wires.{crossed-is, turned-is}
+use Rattle.tile.proofs.Wide.{wide-byte}
+use Rattle.tile.proofs.Wires.{turned-is}
 use Rattle.tile.proofs.Filling.{Starts}
-use Rattle.tile.proofs.Sides.{Within, word-lt, word-byte, word-byte-at, word-small, starts-small, bits-short, fewer-planes}
+use Rattle.tile.proofs.Sides.{Within, word-lt, word-byte, word-byte-at, word-small, starts-small, fewer-planes}
 use Rattle.tile.proofs.Packings.{each-at, planes-of}
 
 -- a byte of the only word
@@ -91,17 +90,16 @@ planar-row-is g d t xs ts r w h len lr e m lm =
 
 -- ---- eight pixels of a sprite
 
-pub sprite-pixels-are : (xs : List ℕ) (k v : ℕ) → ((i : ℕ) → getD xs i 0 < 256) → v ≡ wide 4 0 (λ p. getD xs (k + p * 32) 0) → (m : ℕ) → m < 8 → byteIn (crossed v) m ≡ spritePixel xs k m
-sprite-pixels-are xs k v small e m lm =
-    let f : ℕ → ℕ = λ p. getD xs (k + p * 32) 0 in
-    let fits : (p : ℕ) → f p < 256 = λ p. small (k + p * 32) in
-    let u = wide 4 0 f in
-    let byte : (q : ℕ) → q < 8 → byteOf (u ∷ []) q ≡ byteIn u q = only u in
-    ap (λ (v : ℕ). byteIn (crossed v) m) e
-    ∙ ap (λ (w : ℕ). byteIn w m) (crossed-is u (wide-full 4 f fits (omega arith)))
-    ∙ word-byte exchange (u ∷ []) 0 m (omega arith) (λ j l. omega arith) lm
-    ∙ bits-short 8 4 (λ q. bitOf (0 * 8 + m) (byteOf (u ∷ []) q)) (omega arith)
-    (λ q a b. ap (bitOf (0 * 8 + m)) (byte q b ∙ wide-above 4 q f fits a) ∙ ap (λ (x : ℕ). x % 2) (zero-div (2 ^ (0 * 8 + m))))
-    ∙ bits-same 4 0 (λ q. bitOf (0 * 8 + m) (byteOf (u ∷ []) q)) (λ q. bitOf (0 * 8 + m) (f q))
-    (λ q a b. ap (bitOf (0 * 8 + m)) (byte q (omega arith) ∙ wide-byte 4 0 q f fits (omega arith) ∙ ap f (zero-add q)))
-    ∙ ap (spritePixel xs k) (zero-add m)
+half-place : (k h p : ℕ) → p < 4 → k + (h * 4 + p) % 4 * 32 + (h * 4 + p) / 4 ≡ k + h + p * 32
+half-place k h p l = omega arith
+
+pub half-pixel : (xs : List ℕ) (k h v w m : ℕ) → ((i : ℕ) → getD xs i 0 < 256) → h < 2 → v ≡ wide 8 0 (rowByte xs k) → w ≡ wordFrom (half h) (v ∷ []) 0 → m < 8
+    → byteIn w m ≡ fromBits 4 0 (λ p. bitOf m (getD xs (k + h + p * 32) 0))
+half-pixel xs k h v w m small lh e g lm =
+    ap (λ (x : ℕ). byteIn x m) g
+    ∙ word-byte (half h) (v ∷ []) 0 m (omega arith) (λ j l. omega arith) lm
+    ∙ bits-same 4 0 (λ p. bitOf (0 * 8 + m) (byteOf (v ∷ []) (h * 4 + p))) (λ p. bitOf m (getD xs (k + h + p * 32) 0))
+    (λ p a c. let q = h * 4 + p in
+    ap₂ bitOf (zero-add m)
+    (only v q (omega arith) ∙ ap (λ (v : ℕ). byteIn v q) e ∙ wide-byte 8 0 q (rowByte xs k) (λ q. small (k + q % 4 * 32 + q / 4)) (omega arith) ∙ ap (rowByte xs k) (zero-add q)
+    ∙ ap (λ (i : ℕ). getD xs i 0) (half-place k h p (omega arith))))

@@ -2,10 +2,10 @@
 -- Assumes nothing.
 use mathlib.Core.Path.{_≡_, refl, sym, ap, ap₂, _∙_}
 use Prim.Native.Nat.{ℕ, zero, suc, _+_, _-_, _*_, _/_, _%_, _^_, _≤_, _<_}
-use native.Mathlib.Nat.{lt-of-lt-of-le, le-antisymm, le-of-suc-le-suc, not-suc-le-zero, add-zero, zero-add, add-suc, suc-add, add-comm, suc-mul, div-div-eq-div-mul, div-eq-of-lt, mul-comm}
+use native.Mathlib.Nat.{lt-of-lt-of-le, le-antisymm, le-of-suc-le-suc, not-suc-le-zero, add-zero, zero-add, add-suc, suc-add, suc-mul, div-div-eq-div-mul, mul-comm}
 use native.Mathlib.Numerals.{add-one}
 use native.Mathlib.Omega.{arith}
-use lib.Pow.{pow-add, pow-mono, shr-shr}
+use lib.Pow.{pow-add, pow-mono}
 use Rattle.tile.specs.Bits.{bitOf, fromBits}
 use Rattle.tile.proofs.Bits.{bits-same, field, bit-of-bits}
 use Rattle.tile.specs.Inner.{wide}
@@ -48,10 +48,6 @@ wide-byte (suc n) at (suc p) f h l =
     ∙ ap (λ (q : ℕ). q / 2 ^ (p * 8) % 256) (omega (arith, h at))
     ∙ wide-byte n (suc at) p f h (le-of-suc-le-suc l)
     ∙ ap f (suc-add at p ∙ sym (add-suc at p))
-
--- above its bytes there is nothing
-pub wide-above : (n p : ℕ) (f : ℕ → ℕ) → ((j : ℕ) → f j < 256) → n ≤ p → wide n 0 f / 2 ^ (p * 8) % 256 ≡ 0
-wide-above n p f h l = ap (λ (x : ℕ). x % 256) (div-eq-of-lt (lt-of-lt-of-le (wide-lt n 0 f h) (pow-mono (omega arith))))
 
 pub bit-in-byte : (p j w : ℕ) → p < 8 → bitOf (j * 8 + p) w ≡ bitOf p (w / 2 ^ (j * 8) % 256)
 bit-in-byte p j w l = sym (bit-shr p w (j * 8)) ∙ sym (bit-low p (w / 2 ^ (j * 8)) 8 l)

@@ -5,6 +5,7 @@ use mathlib.Core.Bool.{Bool}
 use mathlib.Core.List.{List, [], _∷_}
 use Prim.Native.Nat.{ℕ, zero, suc, _+_, _-_, _*_, _/_, _%_, _^_, _<_}
 use native.Mathlib.Omega.{arith}
+use lib.Bits.{bitAnd}
 use lib.Dec.{T, ltb}
 use lib.ListN.{getD}
 use lib.Pow.{pow-pos}
@@ -12,7 +13,7 @@ use Rattle.words.specs.Inner.{all}
 use Rattle.words.proofs.Loops.{all-at}
 use Rattle.tile.specs.Layout.{Side}
 use Rattle.tile.specs.Packings.{planar, ngp, lowFirst, highFirst}
-use Rattle.tile.specs.Inner.{Small, wordFrom, turn, exchange, strands, cell, crossed, flipped}
+use Rattle.tile.specs.Inner.{Small, wordFrom, turn, half, strands, cell, crossed, flipped}
 use Rattle.tile.proofs.Wiring.{Wire, given, down, up, keep, join, value, pick, merge, origin, isFrom, suits, isWiredIn, wired-in}
 
 -- the wire of each of n words is as the side says
@@ -55,19 +56,23 @@ turned-wire : T (isSide turn 1 (λ b. flip (cross (given 0))))
 unfolding isSide isWiredIn cross flip swap trade origin pick merge isFrom suits
 turned-wire = tt
 
-crossed-wire : T (isSide exchange 1 (λ b. cross (given 0)))
-unfolding isSide isWiredIn cross swap origin pick merge isFrom suits
-crossed-wire = tt
+unfoldable pub halfOf : ℕ → Wire
+halfOf h = keep (down (cross (given 0)) (h * 4)) 0x0f0f0f0f0f0f0f0f
+
+halves-are : T (all 2 (λ h. isSide (half h) 1 (λ b. halfOf h)))
+unfolding isSide isWiredIn halfOf cross swap origin pick merge isFrom suits
+halves-are = tt
 
 one-small : (v : ℕ) → v < 2 ^ 64 → Small (v ∷ [])
 one-small v l zero = l
 one-small v l (suc i) = pow-pos 64
 
-pub crossed-is : (v : ℕ) → v < 2 ^ 64 → crossed v ≡ wordFrom exchange (v ∷ []) 0
-unfolding value
-crossed-is v l =
+pub half-is : (v h : ℕ) → v < 2 ^ 64 → h < 2 → bitAnd (crossed v / 2 ^ (h * 4)) 0x0f0f0f0f0f0f0f0f ≡ wordFrom (half h) (v ∷ []) 0
+unfolding value halfOf
+half-is v h l lh =
     let e : ℕ → ℕ = λ i. getD (v ∷ []) i 0 in
-    cross-value e (given 0) ∙ word-is exchange 1 (λ b. cross (given 0)) crossed-wire (v ∷ []) (one-small v l) 0 (omega arith)
+    ap (λ (c : ℕ). bitAnd (c / 2 ^ (h * 4)) 0x0f0f0f0f0f0f0f0f) (cross-value e (given 0))
+    ∙ word-is (half h) 1 (λ b. halfOf h) (all-at 2 (λ h. isSide (half h) 1 (λ b. halfOf h)) halves-are h lh) (v ∷ []) (one-small v l) 0 (omega arith)
 
 pub turned-is : (v : ℕ) → v < 2 ^ 64 → flipped (crossed v) ≡ wordFrom turn (v ∷ []) 0
 unfolding value

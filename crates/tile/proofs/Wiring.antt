@@ -3,7 +3,7 @@
 use mathlib.Core.Path.{_≡_, refl, sym, ap, ap₂, _∙_}
 use mathlib.Core.Bool.{Bool, true, false, not, _&&_}
 use Prim.Native.Nat.{ℕ, zero, suc, _+_, _-_, _*_, _/_, _%_, _^_, _≤_, _<_}
-use native.Mathlib.Nat.{lt-of-le-of-lt, lt-of-lt-of-le, mod-lt, div-le-self, mod-eq-of-lt, div-one, zero-add}
+use native.Mathlib.Nat.{lt-of-le-of-lt, lt-of-lt-of-le, mod-lt, div-le-self, mod-eq-of-lt, div-one}
 use native.Mathlib.Omega.{arith}
 use lib.Bits.{bitAnd, bitOr, or-lt, and-le-l, or-zero-l, or-zero-r}
 use lib.Dec.{T, ltb, eqb, ltb→lt, nltb→le, eqb→eq}

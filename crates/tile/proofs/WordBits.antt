@@ -1,9 +1,9 @@
 -- The bits of what the operations on words give.
 -- Assumes nothing.
-use mathlib.Core.Path.{_≡_, refl, sym, ap, ap₂, _∙_}
+use mathlib.Core.Path.{_≡_, refl, sym, ap, _∙_}
 use mathlib.Core.Bool.{Bool, true, false, _||_}
-use Prim.Native.Nat.{ℕ, zero, suc, _+_, _-_, _*_, _/_, _%_, _^_, _≤_, _<_}
-use native.Mathlib.Nat.{lt-of-lt-of-le, div-eq-of-lt, add-comm, sub-add-cancel, mul-assoc}
+use Prim.Native.Nat.{ℕ, _+_, _-_, _*_, _/_, _%_, _^_, _≤_, _<_}
+use native.Mathlib.Nat.{lt-of-lt-of-le, div-eq-of-lt, mul-assoc}
 use native.Mathlib.Omega.{arith}
 use lib.Bits.{bitAnd, bitOr, or-lt, or-add-and, and-le-l, and-le-r, and-shr, or-shr, and-mod, or-mod, and-mask, and-zero-r}
 use lib.Pow.{pow-add, pow-mono, shr-shr, shl-shr, field, mod-mod-pow}

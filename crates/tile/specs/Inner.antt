@@ -149,10 +149,6 @@ HasWords f n ws = (i : ℕ) → i < n → HasWord f i (getD ws i 0)
 abbrev pub turn : Side
 turn = record { count = 8; bits = 8; from = λ x q. q; place = λ x q. 7 - x }
 
--- Rows and columns of bits exchanged: bit q of byte x is bit x of byte q.
-abbrev pub exchange : Side
-exchange = record { count = 8; bits = 8; from = λ x q. q; place = λ x q. x }
-
 -- The pixels of eight planes in groups of g, out of words that were turned.
 abbrev pub strands : ℕ → Side
 strands g = record { count = 64; bits = 8; from = λ i p. (p / g * g + i / 8 * g / 8) * 8 + i % 8; place = λ i p. i / 8 * g % 8 + p % g }
@@ -164,12 +160,13 @@ cell = record { count = 128; bits = 8; from = λ k j. k % 32 * 8 + j; place = λ
 abbrev pub cellByte : List ℕ → ℕ → ℕ → ℕ → ℕ
 cellByte xs from w k = fromBits 8 0 (λ j. bitOf (k / 32) (getD xs (from + k % 32 / 2 * w + (k % 2 * 8 + j)) 0))
 
--- Pixel m of the eight whose plane bytes stand 32 apart from place k on.
-abbrev pub spritePixel : List ℕ → ℕ → ℕ → ℕ
-spritePixel xs k m = fromBits 4 0 (λ p. bitOf m (getD xs (k + p * 32) 0))
+-- A row of a cell has eight bytes: byte q is that of plane q % 4 in half q / 4, where the first stands at place k.
+abbrev pub rowByte : List ℕ → ℕ → ℕ → ℕ
+rowByte xs k q = getD xs (k + q % 4 * 32 + q / 4) 0
 
-abbrev pub SpritePixels : List ℕ → ℕ → ℕ → Type 0
-SpritePixels xs k w = (m : ℕ) → m < 8 → byteIn w m ≡ spritePixel xs k m
+-- The eight pixels of a half out of the word of those bytes.
+abbrev pub half : ℕ → Side
+half h = record { count = 8; bits = 4; from = λ x p. h * 4 + p; place = λ x p. x }
 
 -- ---- the word functions' exchanges
 

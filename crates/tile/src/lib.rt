@@ -5,7 +5,7 @@ use words::Written;
 use words::refusal;
 ghost use mathlib.Core.Path.{_≡_};
 ghost use mathlib.Core.List.{[], _∷_};
-ghost use Prim.Native.Nat.{_+_, _*_, _<_, _≤_};
+ghost use Prim.Native.Nat.{_+_, _*_, _^_, _<_, _≤_};
 ghost use lib.Dec.{T};
 ghost use lib.ListN.{length, getD, take, drop};
 ghost use lib.Seq.{sets};
@@ -14,7 +14,7 @@ ghost use Rattle.words.specs.Loops.{each, some};
 ghost use Rattle.mode.specs.Table.{oneOf};
 ghost use Rattle.tile.specs.Layout.{element, spread};
 ghost use Rattle.tile.specs.Packings.{planar, ngp, lowFirst, highFirst, sprite};
-ghost use Rattle.tile.specs.Inner.{pixelCount, byteCount, packedIn, unpackedIn, isPacking, Packs, Unpacks, PacksWhole, UnpacksWhole, Group, nibbles, wordAt, byteIn, bytesIn, Small, WordsOf, CellOf, Reads, Turned, wordFrom, WordsFrom, strands, cell, cellByte, SpritePixels, crossed, flipped};
+ghost use Rattle.tile.specs.Inner.{pixelCount, byteCount, packedIn, unpackedIn, isPacking, Packs, Unpacks, PacksWhole, UnpacksWhole, Group, nibbles, wordAt, byteIn, bytesIn, Small, WordsOf, CellOf, Reads, Turned, wordFrom, WordsFrom, strands, cell, cellByte, rowByte, half, wide, crossed, flipped};
 ghost use Rattle.tile.specs.Tile.{pairs, fours, gbaPacking, wscPacking, packingOf, isNative, tooLarge, tileSays, packSays, unpackSays, packed, unpacked};
 
 // How the bits of a tile's pixels stand in its bytes.
@@ -370,13 +370,9 @@ fn put_sprite(tile: &[u8], width: usize, height: usize, out: &mut [u8], at: usiz
     let n = width / 16 * down;
     let mut c = 0;
     while c < n {
-        put_cell(
-            tile,
-            (c % down * width + c / down) * 16,
-            width,
-            out,
-            at + c * 128,
-        );
+        let left = c / down;
+        let above = c % down;
+        put_cell(tile, (above * width + left) * 16, width, out, at + c * 128);
         c += 1;
     }
 }
@@ -547,35 +543,41 @@ fn put_nibble_rows(bytes: &[u8], high: bool, out: &mut [u8], at: usize)
     }
 }
 
-// Eight pixels of a sprite, whose plane bytes stand 32 apart from place k on.
-fn sprite_pixels(bytes: &[u8], k: usize) -> u64
-    requires { ⌜ k + 96 < length (now bytes) ⌝ }
-    ensures { λ r. ⌜ SpritePixels (now (bytes .entry)) k r ⌝ }
+// The word of a row of a cell, whose first byte stands at place k: the planes of one half, then those of the other.
+fn row_word(bytes: &[u8], k: usize) -> u64
+    requires { ⌜ k + 97 < length (now bytes) ⌝ }
+    ensures { λ r. ⌜ (r ≡ wide 8 0 (rowByte (now (bytes .entry)) k)) × (r < 2 ^ 64) ⌝ }
 {
     let mut w: u64 = 0;
     let mut n = 0;
-    while n < 4 {
-        w = w * 256 + widen(bytes[k + (3 - n) * 32]);
+    while n < 8 {
+        w = w * 256 + widen(bytes[k + (7 - n) % 4 * 32 + (7 - n) / 4]);
         n += 1;
     }
-    cross(w)
+    w
 }
 
-// Row y of a sprite.
+// Eight pixels of a row of a cell. Both halves are exchanged at once.
+fn half_word(w: u64, h: usize) -> u64
+    requires { ⌜ (w < 2 ^ 64) × (h < 2) ⌝ }
+    ensures { λ r. ⌜ r ≡ wordFrom (half h) (w ∷ []) 0 ⌝ }
+{
+    (cross(w) >> (h * 4)) & 0x0f0f0f0f0f0f0f0f
+}
+
+// Row y of a sprite, a cell at a time.
 fn put_sprite_row(bytes: &[u8], width: usize, height: usize, y: usize, out: &mut [u8], at: usize)
     requires { ⌜ T (isPacking (Packing.Sprite width height)) × (length (now bytes) ≡ byteCount (Packing.Sprite width height)) × (y < height) × (at + width ≤ length (now out)) ⌝ }
     ensures { λ _. ⌜ now (out .exit) ≡ sets (now (out .entry)) at (each width (λ x. element (sprite width height .pixels) (now (bytes .entry)) (y * width + x) ∷ [])) ⌝ }
 {
     let column = height / 16 * 128;
     let row = y / 16 * 128 + y % 16 * 2;
-    let n = width / 8;
+    let n = width / 16;
     let mut x = 0;
     while x < n {
-        put_bytes(
-            out,
-            at + x * 8,
-            sprite_pixels(bytes, x / 2 * column + row + x % 2),
-        );
+        let w = row_word(bytes, x * column + row);
+        put_bytes(out, at + x * 16, half_word(w, 0));
+        put_bytes(out, at + x * 16 + 8, half_word(w, 1));
         x += 1;
     }
 }

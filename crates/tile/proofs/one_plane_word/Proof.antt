@@ -1,8 +1,7 @@
 -- `tile::one_plane_word` meets its contract: where each of its bits comes from was computed.
 -- Assumes nothing.
 use mathlib.Core.Path.{ap, _∙_}
-use Prim.Native.Nat.{ℕ, _*_, _/_, _%_}
-use native.Mathlib.Omega.{arith}
+use Prim.Native.Nat.{ℕ}
 use lib.ListN.{getD}
 use borrow.Author.Needs.{needs}
 use Rattle.tile.specs.Packings.{planar}

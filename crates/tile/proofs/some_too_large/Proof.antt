@@ -1,8 +1,8 @@
 -- `tile::some_too_large` meets its contract: the bits of all pixels reach 2^depth exactly where some pixel does.
 -- Assumes nothing.
-use mathlib.Core.Path.{_≡_, refl, sym, ap, ap₂, _∙_, subst}
+use mathlib.Core.Path.{_≡_, sym, ap, ap₂, _∙_, subst}
 use mathlib.Core.Bool.{Bool, _||_}
-use Prim.Native.Nat.{ℕ, _*_, _^_, _<_, _≤_, _-_}
+use Prim.Native.Nat.{ℕ, _^_, _<_, _≤_, _-_}
 use native.Mathlib.Numerals.{add-one}
 use native.Mathlib.Omega.{arith}
 use lib.Dec.{leb}
