@@ -64,19 +64,3 @@ bits-split (suc n) m at f =
     let ih : fromBits (n + m) (suc at) f ≡ fromBits n (suc at) f + 2 ^ n * fromBits m (suc at + n) f = bits-split n m (suc at) f in
     let here : suc at + n ≡ at + suc n = suc-add at n ∙ sym (add-suc at n) in
     rw (suc-add, ← here, pow-succ', mul-assoc) (omega arith)
-
--- a byte of two fields, and one of four
-pub two-fields : (f : ℕ → ℕ) → fromBits 8 0 (λ j. bitOf (j % 4) (f (j / 4))) ≡ f 0 % 16 + f 1 % 16 * 16
-unfolding fromBits
-two-fields f =
-    bits-split 4 4 0 (λ j. bitOf (j % 4) (f (j / 4))) ∙ ap₂ (λ (x y : ℕ). x + 16 * y) (bits-of 4 0 (f 0)) (bits-of 4 0 (f 1)) ∙ omega arith
-
-half-byte : (f : ℕ → ℕ) → fromBits 4 0 (λ j. bitOf (j % 2) (f (j / 2))) ≡ f 0 % 4 + f 1 % 4 * 4
-unfolding fromBits
-half-byte f =
-    bits-split 2 2 0 (λ j. bitOf (j % 2) (f (j / 2))) ∙ ap₂ (λ (x y : ℕ). x + 4 * y) (bits-of 2 0 (f 0)) (bits-of 2 0 (f 1)) ∙ omega arith
-
-pub four-fields : (f : ℕ → ℕ) → fromBits 8 0 (λ j. bitOf (j % 2) (f (j / 2))) ≡ f 0 % 4 + f 1 % 4 * 4 + f 2 % 4 * 16 + f 3 % 4 * 64
-unfolding fromBits
-four-fields f =
-    bits-split 4 4 0 (λ j. bitOf (j % 2) (f (j / 2))) ∙ ap₂ (λ (x y : ℕ). x + 16 * y) (half-byte f) (half-byte (λ q. f (2 + q))) ∙ omega arith

@@ -63,8 +63,10 @@ words-next f v w x {out} {now} {mid} {then} {at} h e g i j =
   where
     first-place : (at x : ℕ) → at + x * 16 ≡ at + x * 2 * 8
     first-place at x = omega arith
+
     second-place : (at x : ℕ) → at + x * 16 + 8 ≡ at + (x * 2 + 1) * 8
     second-place at x = omega arith
+
     next-pair : (x : ℕ) → x * 2 + 1 + 1 ≡ (x + 1) * 2
     next-pair x = omega arith
 

@@ -228,28 +228,29 @@ fn put_planes(tile: &[u8], group: usize, depth: usize, out: &mut [u8], at: usize
     put_words(out, at, &part, depth);
 }
 
-// Word b of an ngp tile: the low two bits of the pixels of four rows, the leftmost at the top.
+// Word b of an ngp tile: the low two bits of the pixels of four rows, 0 to 3, the leftmost at the top. In each step the fields of a row join
+// their neighbours: two pixels a field, then four, then eight.
 fn ngp_word(ws: &[u64; 8], b: usize) -> u64
     requires { ⌜ Small (now ws) × (b < 2) ⌝ }
     ensures { λ r. ⌜ r ≡ wordFrom (ngp 8 8 .bytes) (now (ws .entry)) b ⌝ }
 {
     let at = b * 4;
-    let e = ws[at] & 0x0303030303030303;
-    let f = ws[at + 1] & 0x0303030303030303;
-    let g = ws[at + 2] & 0x0303030303030303;
-    let h = ws[at + 3] & 0x0303030303030303;
-    let i = ((e << 2) | (e >> 8)) & 0x000f000f000f000f;
-    let j = ((f << 2) | (f >> 8)) & 0x000f000f000f000f;
-    let k = ((g << 2) | (g >> 8)) & 0x000f000f000f000f;
-    let l = ((h << 2) | (h >> 8)) & 0x000f000f000f000f;
-    let m = ((i << 4) | (i >> 16)) & 0x000000ff000000ff;
-    let n = ((j << 4) | (j >> 16)) & 0x000000ff000000ff;
-    let o = ((k << 4) | (k >> 16)) & 0x000000ff000000ff;
-    let p = ((l << 4) | (l >> 16)) & 0x000000ff000000ff;
-    let q = ((m << 8) | (m >> 32)) & 0x000000000000ffff;
-    let r = ((n << 8) | (n >> 32)) & 0x000000000000ffff;
-    let s = ((o << 8) | (o >> 32)) & 0x000000000000ffff;
-    q | (r << 16) | (s << 32) | (((p << 8) | (p >> 32)) << 48)
+    let a0 = ws[at] & 0x0303030303030303;
+    let a1 = ws[at + 1] & 0x0303030303030303;
+    let a2 = ws[at + 2] & 0x0303030303030303;
+    let a3 = ws[at + 3] & 0x0303030303030303;
+    let b0 = ((a0 << 2) | (a0 >> 8)) & 0x000f000f000f000f;
+    let b1 = ((a1 << 2) | (a1 >> 8)) & 0x000f000f000f000f;
+    let b2 = ((a2 << 2) | (a2 >> 8)) & 0x000f000f000f000f;
+    let b3 = ((a3 << 2) | (a3 >> 8)) & 0x000f000f000f000f;
+    let c0 = ((b0 << 4) | (b0 >> 16)) & 0x000000ff000000ff;
+    let c1 = ((b1 << 4) | (b1 >> 16)) & 0x000000ff000000ff;
+    let c2 = ((b2 << 4) | (b2 >> 16)) & 0x000000ff000000ff;
+    let c3 = ((b3 << 4) | (b3 >> 16)) & 0x000000ff000000ff;
+    let d0 = ((c0 << 8) | (c0 >> 32)) & 0x000000000000ffff;
+    let d1 = ((c1 << 8) | (c1 >> 32)) & 0x000000000000ffff;
+    let d2 = ((c2 << 8) | (c2 >> 32)) & 0x000000000000ffff;
+    d0 | (d1 << 16) | (d2 << 32) | (((c3 << 8) | (c3 >> 32)) << 48)
 }
 
 fn put_ngp(tile: &[u8], out: &mut [u8], at: usize)
@@ -264,19 +265,19 @@ fn put_ngp(tile: &[u8], out: &mut [u8], at: usize)
     }
 }
 
-// Word b of a tile of nibbles: the low four bits of the pixels of two rows.
+// Word b of a tile of nibbles: the low four bits of the pixels of two rows, 0 and 1, joined as in ngp.
 fn low_first_word(ws: &[u64; 8], b: usize) -> u64
     requires { ⌜ Small (now ws) × (b < 4) ⌝ }
     ensures { λ r. ⌜ r ≡ wordFrom (lowFirst 8 8 .bytes) (now (ws .entry)) b ⌝ }
 {
     let at = b * 2;
-    let p = ws[at] & 0x0f0f0f0f0f0f0f0f;
-    let q = ws[at + 1] & 0x0f0f0f0f0f0f0f0f;
-    let r = (p | (p >> 4)) & 0x00ff00ff00ff00ff;
-    let s = (q | (q >> 4)) & 0x00ff00ff00ff00ff;
-    let t = (r | (r >> 8)) & 0x0000ffff0000ffff;
-    let u = (s | (s >> 8)) & 0x0000ffff0000ffff;
-    ((t | (t >> 16)) & 0x00000000ffffffff) | ((u | (u >> 16)) << 32)
+    let a0 = ws[at] & 0x0f0f0f0f0f0f0f0f;
+    let a1 = ws[at + 1] & 0x0f0f0f0f0f0f0f0f;
+    let b0 = (a0 | (a0 >> 4)) & 0x00ff00ff00ff00ff;
+    let b1 = (a1 | (a1 >> 4)) & 0x00ff00ff00ff00ff;
+    let c0 = (b0 | (b0 >> 8)) & 0x0000ffff0000ffff;
+    let c1 = (b1 | (b1 >> 8)) & 0x0000ffff0000ffff;
+    ((c0 | (c0 >> 16)) & 0x00000000ffffffff) | ((c1 | (c1 >> 16)) << 32)
 }
 
 fn high_first_word(ws: &[u64; 8], b: usize) -> u64
@@ -284,13 +285,13 @@ fn high_first_word(ws: &[u64; 8], b: usize) -> u64
     ensures { λ r. ⌜ r ≡ wordFrom (highFirst 8 8 .bytes) (now (ws .entry)) b ⌝ }
 {
     let at = b * 2;
-    let p = ws[at] & 0x0f0f0f0f0f0f0f0f;
-    let q = ws[at + 1] & 0x0f0f0f0f0f0f0f0f;
-    let r = ((p << 4) | (p >> 8)) & 0x00ff00ff00ff00ff;
-    let s = ((q << 4) | (q >> 8)) & 0x00ff00ff00ff00ff;
-    let t = (r | (r >> 8)) & 0x0000ffff0000ffff;
-    let u = (s | (s >> 8)) & 0x0000ffff0000ffff;
-    ((t | (t >> 16)) & 0x00000000ffffffff) | ((u | (u >> 16)) << 32)
+    let a0 = ws[at] & 0x0f0f0f0f0f0f0f0f;
+    let a1 = ws[at + 1] & 0x0f0f0f0f0f0f0f0f;
+    let b0 = ((a0 << 4) | (a0 >> 8)) & 0x00ff00ff00ff00ff;
+    let b1 = ((a1 << 4) | (a1 >> 8)) & 0x00ff00ff00ff00ff;
+    let c0 = (b0 | (b0 >> 8)) & 0x0000ffff0000ffff;
+    let c1 = (b1 | (b1 >> 8)) & 0x0000ffff0000ffff;
+    ((c0 | (c0 >> 16)) & 0x00000000ffffffff) | ((c1 | (c1 >> 16)) << 32)
 }
 
 fn nibble_word(ws: &[u64; 8], high: bool, b: usize) -> u64

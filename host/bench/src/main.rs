@@ -65,6 +65,7 @@ fn main() {
             table.push(line);
         }
     }
+    table.extend(sets::byte_lines(&mut random).inspect(print_line));
     table.extend(sets::lines(&mut random).inspect(print_line));
     table.extend(pictures::lines(&mut random).inspect(print_line));
     let slowest = table.iter().min_by(|a, b| a.ratio().total_cmp(&b.ratio())).expect("the table has lines");

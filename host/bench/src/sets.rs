@@ -1,4 +1,4 @@
-//! Adding and looking up, on tiles that are like art and on tiles that are not.
+//! Adding and looking up, on tiles that are like art and on tiles that are not; and writing and reading a set's bytes.
 
 use std::hint::black_box;
 
@@ -87,6 +87,69 @@ pub fn lines(random: &mut Random) -> impl Iterator<Item = Measured> {
         let tiles = different_tiles(shape, kind, TILES + OTHERS, random);
         [add_all(shape, kind, &tiles), look_up_nothing(shape, kind, &tiles)]
     })
+}
+
+/// Writing a set's bytes and reading them back, for shapes whose tiles are packed in different ways. The Rust reads no
+/// sprites.
+pub fn byte_lines(random: &mut Random) -> impl Iterator<Item = Measured> {
+    let shapes = [(0, 4, 8), (4, 8, 8), (2, 2, 8), (10, 4, 16)];
+    let shapes = shapes.map(|(mode, depth, side)| Shape { mode, depth, width: side, height: side });
+    shapes.into_iter().flat_map(|shape| {
+        let tiles: Vec<_> = (0..TILES).map(|_| random.pixels(shape.depth, shape.pixels())).collect();
+        let read = (shape.width == 8).then(|| read_bytes(shape, random));
+        std::iter::once(write_bytes(shape, &tiles)).chain(read)
+    })
+}
+
+/// Mode, depth and size.
+fn shape_text(shape: Shape) -> String {
+    let Shape { mode, depth, width, height } = shape;
+    format!("{} {depth} {width}x{height}", MODES[mode as usize].name)
+}
+
+/// Writes 1,024 tiles, that are all kept.
+fn write_bytes(shape: Shape, tiles: &[Vec<u8>]) -> Measured {
+    let Shape { mode, depth, width, height } = shape;
+    let mut port = Set::new(mode, depth, width, height, false, false, 0).expect("the shape is a set's");
+    let mut rust = plain::tileset(plain::mode(mode), depth, width, height, false, false, 0);
+    let mut store = vec![0; TILES * shape.pixels()];
+    for (tile, image) in tiles.iter().zip(images(shape, tiles)) {
+        port.add(&mut store, tile).expect("there is room");
+        plain::add(&mut rust, &image).expect("the image has pixels");
+    }
+    let mut out = vec![0; port.write_len().expect("the set is sound")];
+    measured(
+        "set write",
+        shape_text(shape),
+        TILES,
+        || {
+            port.write(black_box(&store), black_box(&mut out)).expect("there is space");
+        },
+        || {
+            black_box(plain::to_native_data(black_box(&rust)).expect("the set is sound"));
+        },
+    )
+}
+
+/// Reads the bytes of 1,024 tiles.
+fn read_bytes(shape: Shape, random: &mut Random) -> Measured {
+    let Shape { mode, depth, width, height } = shape;
+    let rust = plain::mode(mode);
+    let bytes = random.bytes(TILES * shape.bytes());
+    let mut store = vec![0; TILES * shape.pixels()];
+    measured(
+        "set read",
+        shape_text(shape),
+        TILES,
+        || {
+            let read = Set::read(mode, depth, width, height, false, black_box(&bytes), black_box(&mut store));
+            assert_eq!(read.expect("the bytes are a set's").stored as usize, TILES);
+        },
+        || {
+            let read = plain::from_native_data(rust, depth, width, height, false, black_box(&bytes));
+            black_box(read.expect("the bytes are a set's"));
+        },
+    )
 }
 
 /// Mode, depth, size and kind.

@@ -24,7 +24,7 @@ abbrev μ-loop : tie.MeasureT-loop
 μ-loop tile width height out₀ at down n c₀ out c = n - c
 
 mul-n : tie.Need-mul-n Inv-loop μ-loop
-mul-n c = 
+mul-n c =
     let s = c .before .before in
     omega (arith, sized-of (s .args .width) (s .args .height) (s .pre .sound) .cells, sized-of (s .args .width) (s .args .height) (s .pre .sound) .few)
 
@@ -38,37 +38,37 @@ rem-above : tie.Need-rem-above Inv-loop μ-loop
 rem-above c = let s = c .before .before .before .before in sized-of (s .args .width) (s .args .height) (s .pre .sound) .down
 
 mul-put-cell : tie.Need-mul-put-cell Inv-loop μ-loop
-mul-put-cell c = 
+mul-put-cell c =
     let s = c .before .before .before .before in
     let a = s .args in
     omega (arith, cell-inside (a .width) (a .height) (c .before .loop .c) (s .pre .sound) (omega arith), sized-of (a .width) (a .height) (s .pre .sound) .few)
 
 add-put-cell : tie.Need-add-put-cell Inv-loop μ-loop
-add-put-cell c = 
+add-put-cell c =
     let s = c .before .before .before .before in
     let a = s .args in
     omega (arith, cell-inside (a .width) (a .height) (c .before .loop .c) (s .pre .sound) (omega arith), sized-of (a .width) (a .height) (s .pre .sound) .few)
 
 mul-put-cell-2 : tie.Need-mul-put-cell-2 Inv-loop μ-loop
-mul-put-cell-2 c = 
+mul-put-cell-2 c =
     let s = c .before .before .before .before in
     let a = s .args in
     omega (arith, cell-inside (a .width) (a .height) (c .before .loop .c) (s .pre .sound) (omega arith), sized-of (a .width) (a .height) (s .pre .sound) .few)
 
 mul-put-cell-3 : tie.Need-mul-put-cell-3 Inv-loop μ-loop
-mul-put-cell-3 c = 
+mul-put-cell-3 c =
     let s = c .before .before .before .before .before in
     let z = sized-of (s .args .width) (s .args .height) (s .pre .sound) in
     omega (arith, z .cells, z .few)
 
 add-put-cell-2 : tie.Need-add-put-cell-2 Inv-loop μ-loop
-add-put-cell-2 c = 
+add-put-cell-2 c =
     let s = c .before .before .before .before .before in
     let z = sized-of (s .args .width) (s .args .height) (s .pre .sound) in
     omega (arith, z .cells, s .pre .space)
 
 put-cell-requires : tie.Need-put-cell-requires Inv-loop μ-loop
-put-cell-requires c κs = 
+put-cell-requires c κs =
     let s = c .before .before .before .before .before in
     let a = s .args in
     let z = sized-of (a .width) (a .height) (s .pre .sound) in
@@ -76,7 +76,7 @@ put-cell-requires c κs =
     (z .wide, omega (arith, cell-inside (a .width) (a .height) (l .c) (s .pre .sound) (omega arith), s .pre .whole), omega (arith, z .cells, l .inv .1 .long, s .pre .space))
 
 add-c : tie.Need-add-c Inv-loop μ-loop
-add-c c = 
+add-c c =
     let s = c .before .before .before .before .before .before .before .before in
     let z = sized-of (s .args .width) (s .args .height) (s .pre .sound) in
     omega (arith, z .cells, z .few)
@@ -85,7 +85,7 @@ loop-less : tie.Need-loop-less Inv-loop μ-loop
 loop-less c = search needs
 
 loop-again : tie.Need-loop-again Inv-loop μ-loop
-loop-again c = 
+loop-again c =
     let a = c .before .before .before .before .before .before .before .before .args in
     let l = c .before .before .before .before .before .loop in
     (omega arith, filled-more 128 (λ j. length-ones 128 (λ k. element (sprite (a .width) (a .height) .bytes) (a .tile .now) (j * 128 + k))) (l .inv .1) (c .before .before .put-cell .ensures ∙ ap (λ (x : List ℕ). sets (l .out) (a .at + l .c * 128) x) (sprite-cell (a .width) (a .height) (l .c) 128 (a .tile .now) (omega arith))))
@@ -94,7 +94,7 @@ same-length : tie.Need-same-length Inv-loop μ-loop
 same-length c = c .before .loop .inv .1 .long
 
 returns : tie.Need-returns Inv-loop μ-loop
-returns c = 
+returns c =
     let s = c .before .before .before .before in
     let a = s .args in
     let side = sprite (a .width) (a .height) .bytes in

@@ -39,19 +39,19 @@ loop-holds : tie.Need-loop-holds Inv-loop μ-loop
 loop-holds c = (search needs, filled-none _ _ _)
 
 mul-row-word : tie.Need-mul-row-word Inv-loop μ-loop
-mul-row-word c = 
+mul-row-word c =
     let s = c .before .before .before .before in
     let a = s .args in
     omega (arith, planes-inside (a .width) (a .height) (a .y) (c .before .loop .x) (s .pre .0) (s .pre .2) (omega arith), sized-of (a .width) (a .height) (s .pre .0) .few, s .pre .1)
 
 add-row-word : tie.Need-add-row-word Inv-loop μ-loop
-add-row-word c = 
+add-row-word c =
     let s = c .before .before .before .before in
     let a = s .args in
     omega (arith, planes-inside (a .width) (a .height) (a .y) (c .before .loop .x) (s .pre .0) (s .pre .2) (omega arith), sized-of (a .width) (a .height) (s .pre .0) .few, s .pre .1)
 
 row-word-requires : tie.Need-row-word-requires Inv-loop μ-loop
-row-word-requires c κs = 
+row-word-requires c κs =
     let s = c .before .before .before .before in
     let a = s .args in
     omega (arith, planes-inside (a .width) (a .height) (a .y) (c .before .loop .x) (s .pre .0) (s .pre .2) (omega arith), sized-of (a .width) (a .height) (s .pre .0) .few, s .pre .1)
@@ -81,7 +81,7 @@ half-word-requires-2 : tie.Need-half-word-requires-2 Inv-loop μ-loop
 half-word-requires-2 c κs = (c .before .before .before .before .before .before .row-word .ensures .1, omega arith)
 
 put-bytes-requires-2 : tie.Need-put-bytes-requires-2 Inv-loop μ-loop
-put-bytes-requires-2 c κs = 
+put-bytes-requires-2 c κs =
     let s = c .before .before .before .before .before .before .before .before .before .before .before .before in
     let l = c .before .before .before .before .before .before .before .before .before .loop in
     omega (arith, ap length (c .before .before .before .before .put-bytes .ensures) ∙ length-sets (l .out) (s .args .at + l .x * 16) (bytesIn (c .before .before .before .before .before .half-word .result)), l .inv .1 .long, s .pre .3)
@@ -90,7 +90,7 @@ loop-less : tie.Need-loop-less Inv-loop μ-loop
 loop-less c = search needs
 
 loop-again : tie.Need-loop-again Inv-loop μ-loop
-loop-again c = 
+loop-again c =
     let a = c .before .before .before .before .before .before .before .before .before .before .before .before .before .before .before .args in
     let l = c .before .before .before .before .before .before .before .before .before .before .before .before .loop in
     let w = c .before .before .before .before .before .before .before .before .before .before .row-word in
@@ -108,7 +108,7 @@ same-length : tie.Need-same-length Inv-loop μ-loop
 same-length c = c .before .loop .inv .1 .long
 
 returns : tie.Need-returns Inv-loop μ-loop
-returns c = 
+returns c =
     let s = c .before .before .before .before in
     let a = s .args in
     let whole : a .width / 16 * 2 * 8 ≡ a .width = omega (arith, sized-of (a .width) (a .height) (s .pre .0) .sixteens) in

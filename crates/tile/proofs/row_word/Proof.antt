@@ -20,14 +20,14 @@ unfolding wide
 loop-holds c = (search needs, refl)
 
 mul-w : tie.Need-mul-w Inv-loop μ-loop
-mul-w c = 
+mul-w c =
     let l = c .before .loop in
     let s = c .before .before in
     let a = s .before .args in
     omega (arith, wide-below (l .n) (8 - l .n) (rowByte (a .bytes .now) (a .k)) (λ q. s .shared-slice-known .given (a .k + q % 4 * 32 + q / 4) .fits) (omega arith))
 
 add-w : tie.Need-add-w Inv-loop μ-loop
-add-w c = 
+add-w c =
     let l = c .before .before .before .loop in
     let s = c .before .before .before .before in
     let a = s .before .args in
@@ -37,13 +37,13 @@ loop-less : tie.Need-loop-less Inv-loop μ-loop
 loop-less c = search needs
 
 loop-again : tie.Need-loop-again Inv-loop μ-loop
-loop-again c = 
+loop-again c =
     let l = c .before .before .before .loop in
     let a = c .before .before .before .before .before .args in
     (omega arith, word-more 8 (l .n) (l .w) (c .widen .result) (rowByte (a .bytes .now) (a .k)) (omega arith) (l .inv .1) (c .widen .ensures ∙ ap (rowByte (a .bytes .now) (a .k)) (omega arith)))
 
 returns : tie.Need-returns Inv-loop μ-loop
-returns c = 
+returns c =
     let l = c .before .loop in
     let s = c .before .before in
     let a = s .before .args in
