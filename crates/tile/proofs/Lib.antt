@@ -7,7 +7,7 @@ pub mod Wide
 pub mod Wires
 pub mod Sides
 pub mod Packings
-pub mod Turned
+pub mod Columns
 pub mod Packed
 pub mod Native
 pub mod Checks

@@ -13,7 +13,7 @@ use Rattle.words.specs.Inner.{all}
 use Rattle.words.proofs.Loops.{all-at}
 use Rattle.tile.specs.Layout.{Side}
 use Rattle.tile.specs.Packings.{planar, ngp, lowFirst, highFirst}
-use Rattle.tile.specs.Inner.{Small, wordFrom, turn, half, strands, cell, crossed, flipped}
+use Rattle.tile.specs.Inner.{Small, wordFrom, column, half, strands, cell, crossed, reversedBytes}
 use Rattle.tile.proofs.Wiring.{Wire, given, down, up, keep, join, value, pick, merge, origin, isFrom, suits, isWiredIn, wired-in}
 
 -- the wire of each of n words is as the side says
@@ -41,20 +41,20 @@ cross w = swap 0xf0f0f0f00f0f0f0f 0x00000000f0f0f0f0 28 (swap 0xcccc3333cccc3333
 unfoldable pub trade : ℕ → ℕ → Wire → Wire
 trade m s w = join (up (keep w m) s) (keep (down w s) m)
 
-unfoldable pub flip : Wire → Wire
-flip w = let b : Wire = trade 0x0000ffff0000ffff 16 (trade 0x00ff00ff00ff00ff 8 w) in join (up b 32) (down b 32)
+unfoldable pub backwards : Wire → Wire
+backwards w = let b : Wire = trade 0x0000ffff0000ffff 16 (trade 0x00ff00ff00ff00ff 8 w) in join (up b 32) (down b 32)
 
 pub cross-value : (e : ℕ → ℕ) (w : Wire) → crossed (value e w) ≡ value e (cross w)
 unfolding crossed value cross swap
 cross-value e w = refl
 
-pub flip-value : (e : ℕ → ℕ) (w : Wire) → flipped (value e w) ≡ value e (flip w)
-unfolding flipped value flip trade
-flip-value e w = refl
+pub backwards-value : (e : ℕ → ℕ) (w : Wire) → reversedBytes (value e w) ≡ value e (backwards w)
+unfolding reversedBytes value backwards trade
+backwards-value e w = refl
 
-turned-wire : T (isSide turn 1 (λ b. flip (cross (given 0))))
-unfolding isSide isWiredIn cross flip swap trade origin pick merge isFrom suits
-turned-wire = tt
+columns-wire : T (isSide column 1 (λ b. backwards (cross (given 0))))
+unfolding isSide isWiredIn cross backwards swap trade origin pick merge isFrom suits
+columns-wire = tt
 
 unfoldable pub halfOf : ℕ → Wire
 halfOf h = keep (down (cross (given 0)) (h * 4)) 0x0f0f0f0f0f0f0f0f
@@ -74,12 +74,12 @@ half-is v h l lh =
     ap (λ (c : ℕ). bitAnd (c / 2 ^ (h * 4)) 0x0f0f0f0f0f0f0f0f) (cross-value e (given 0))
     ∙ word-is (half h) 1 (λ b. halfOf h) (all-at 2 (λ h. isSide (half h) 1 (λ b. halfOf h)) halves-are h lh) (v ∷ []) (one-small v l) 0 (omega arith)
 
-pub turned-is : (v : ℕ) → v < 2 ^ 64 → flipped (crossed v) ≡ wordFrom turn (v ∷ []) 0
+pub columns-is : (v : ℕ) → v < 2 ^ 64 → reversedBytes (crossed v) ≡ wordFrom column (v ∷ []) 0
 unfolding value
-turned-is v l =
+columns-is v l =
     let e : ℕ → ℕ = λ i. getD (v ∷ []) i 0 in
-    ap flipped (cross-value e (given 0)) ∙ flip-value e (cross (given 0))
-    ∙ word-is turn 1 (λ b. flip (cross (given 0))) turned-wire (v ∷ []) (one-small v l) 0 (omega arith)
+    ap reversedBytes (cross-value e (given 0)) ∙ backwards-value e (cross (given 0))
+    ∙ word-is column 1 (λ b. backwards (cross (given 0))) columns-wire (v ∷ []) (one-small v l) 0 (omega arith)
 
 -- ---- planes: g bits of each byte of 8 / g words, and g bytes of each
 
@@ -103,13 +103,13 @@ unfoldable pub two : ℕ → ℕ → ℕ → ℕ → ℕ → Wire
 two at n s m u = join (one at s m) (part (at + n) s m u)
 
 unfoldable pub ones : ℕ → Wire
-ones b = cross (flip (eight 0 b 0x0101010101010101))
+ones b = cross (backwards (eight 0 b 0x0101010101010101))
 
 unfoldable pub pairs : ℕ → Wire
-pairs b = cross (flip (four (b % 2 * 4) 1 (b / 2 * 2) 0x0303030303030303 2))
+pairs b = cross (backwards (four (b % 2 * 4) 1 (b / 2 * 2) 0x0303030303030303 2))
 
 unfoldable pub fours : ℕ → Wire
-fours b = cross (flip (two (b % 4 * 2) 1 (b / 4 * 4) 0x0f0f0f0f0f0f0f0f 4))
+fours b = cross (backwards (two (b % 4 * 2) 1 (b / 4 * 4) 0x0f0f0f0f0f0f0f0f 4))
 
 unfoldable pub oneRow : ℕ → Wire
 oneRow r = eight 0 r 0x0101010101010101
@@ -124,15 +124,15 @@ unfoldable pub cellPlane : ℕ → Wire
 cellPlane b = cross (eight (b % 4 * 8) (b / 4) 0x0101010101010101)
 
 pub ones-are : T (isSide (planar 1 8 8 8 .bytes) 8 ones)
-unfolding isSide isWiredIn ones eight one part cross flip swap trade origin pick merge isFrom suits
+unfolding isSide isWiredIn ones eight one part cross backwards swap trade origin pick merge isFrom suits
 ones-are = tt
 
 pub pairs-are : T (isSide (planar 2 8 8 8 .bytes) 8 pairs)
-unfolding isSide isWiredIn pairs four one part cross flip swap trade origin pick merge isFrom suits
+unfolding isSide isWiredIn pairs four one part cross backwards swap trade origin pick merge isFrom suits
 pairs-are = tt
 
 pub fours-are : T (isSide (planar 4 8 8 8 .bytes) 8 fours)
-unfolding isSide isWiredIn fours two one part cross flip swap trade origin pick merge isFrom suits
+unfolding isSide isWiredIn fours two one part cross backwards swap trade origin pick merge isFrom suits
 fours-are = tt
 
 pub one-row-is : T (isSide (strands 1) 8 oneRow)

@@ -112,13 +112,13 @@ pub record CellOf (xs : List ℕ) (from w : ℕ) (ws : List ℕ) : Type 0 where
   pub small : Small ws
 
 -- n words read, and if they are fewer than eight the list ends there.
-pub record Reads (xs : List ℕ) (n : ℕ) : Type 0 where
+pub record WordsIn (xs : List ℕ) (n : ℕ) : Type 0 where
   pub few : n ≤ 8
   pub inside : n * 8 ≤ length xs
   pub ends : n < 8 → length xs ≤ n * 8
 
 -- Words whose bytes were turned, so that byte x has the bits of column x: bit q is that of byte q.
-pub record Turned (xs ts : List ℕ) : Type 0 where
+pub record Columns (xs ts : List ℕ) : Type 0 where
   pub are : (k q : ℕ) → k < 64 → q < 8 → bitOf q (byteOf ts k) ≡ bitOf (7 - k % 8) (getD xs (k / 8 * 8 + q) 0)
   pub small : Small ts
 
@@ -146,8 +146,8 @@ abbrev pub HasWords : (ℕ → ℕ) → ℕ → List ℕ → Type 0
 HasWords f n ws = (i : ℕ) → i < n → HasWord f i (getD ws i 0)
 
 -- A word turned: bit q of byte x is bit 7 - x of byte q.
-abbrev pub turn : Side
-turn = record { count = 8; bits = 8; from = λ x q. q; place = λ x q. 7 - x }
+abbrev pub column : Side
+column = record { count = 8; bits = 8; from = λ x q. q; place = λ x q. 7 - x }
 
 -- The pixels of eight planes in groups of g, out of words that were turned.
 abbrev pub strands : ℕ → Side
@@ -182,8 +182,8 @@ crossed w =
     swapped 0xf0f0f0f00f0f0f0f 0x00000000f0f0f0f0 28 b
 
 -- The bytes in reverse order.
-unfoldable pub flipped : ℕ → ℕ
-flipped w =
+unfoldable pub reversedBytes : ℕ → ℕ
+reversedBytes w =
     let a : ℕ = bitOr (bitAnd w 0x00ff00ff00ff00ff * 2 ^ 8 % 2 ^ 64) (bitAnd (w / 2 ^ 8) 0x00ff00ff00ff00ff) in
     let b : ℕ = bitOr (bitAnd a 0x0000ffff0000ffff * 2 ^ 16 % 2 ^ 64) (bitAnd (a / 2 ^ 16) 0x0000ffff0000ffff) in
     bitOr (b * 2 ^ 32 % 2 ^ 64) (b / 2 ^ 32)

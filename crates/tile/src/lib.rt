@@ -14,7 +14,7 @@ ghost use Rattle.words.specs.Loops.{each, some};
 ghost use Rattle.mode.specs.Table.{oneOf};
 ghost use Rattle.tile.specs.Layout.{element, spread};
 ghost use Rattle.tile.specs.Packings.{planar, ngp, lowFirst, highFirst, sprite};
-ghost use Rattle.tile.specs.Inner.{pixelCount, byteCount, packedIn, unpackedIn, isPacking, Packs, Unpacks, PacksWhole, UnpacksWhole, Group, nibbles, wordAt, byteIn, bytesIn, Small, WordsOf, CellOf, Reads, Turned, wordFrom, WordsFrom, strands, cell, cellByte, rowByte, half, wide, crossed, flipped};
+ghost use Rattle.tile.specs.Inner.{pixelCount, byteCount, packedIn, unpackedIn, isPacking, Packs, Unpacks, PacksWhole, UnpacksWhole, Group, nibbles, wordAt, byteIn, bytesIn, Small, WordsOf, CellOf, WordsIn, Columns, wordFrom, WordsFrom, strands, cell, cellByte, rowByte, half, wide, crossed, reversedBytes};
 ghost use Rattle.tile.specs.Tile.{pairs, fours, gbaPacking, wscPacking, packingOf, isNative, tooLarge, tileSays, packSays, unpackSays, packed, unpacked};
 
 // How the bits of a tile's pixels stand in its bytes.
@@ -139,8 +139,8 @@ fn cross(w: u64) -> u64
 }
 
 // The bytes of a word in reverse order.
-fn flip(w: u64) -> u64
-    ensures { λ r. ⌜ r ≡ flipped w ⌝ }
+fn reverse_bytes(w: u64) -> u64
+    ensures { λ r. ⌜ r ≡ reversedBytes w ⌝ }
 {
     let a = ((w & 0x00ff00ff00ff00ff) << 8) | ((w >> 8) & 0x00ff00ff00ff00ff);
     let b = ((a & 0x0000ffff0000ffff) << 16) | ((a >> 16) & 0x0000ffff0000ffff);
@@ -162,7 +162,7 @@ fn one_plane_word(ws: &[u64; 8], b: usize) -> u64
         | (((ws[5] >> b) & m) << 5)
         | (((ws[6] >> b) & m) << 6)
         | (((ws[7] >> b) & m) << 7);
-    cross(flip(w))
+    cross(reverse_bytes(w))
 }
 
 fn pair_word(ws: &[u64; 8], b: usize) -> u64
@@ -176,7 +176,7 @@ fn pair_word(ws: &[u64; 8], b: usize) -> u64
         | (((ws[at + 1] >> s) & m) << 2)
         | (((ws[at + 2] >> s) & m) << 4)
         | (((ws[at + 3] >> s) & m) << 6);
-    cross(flip(w))
+    cross(reverse_bytes(w))
 }
 
 fn four_word(ws: &[u64; 8], b: usize) -> u64
@@ -187,7 +187,7 @@ fn four_word(ws: &[u64; 8], b: usize) -> u64
     let at = b % 4 * 2;
     let s = b / 4 * 4;
     let w = ((ws[at] >> s) & m) | (((ws[at + 1] >> s) & m) << 4);
-    cross(flip(w))
+    cross(reverse_bytes(w))
 }
 
 // Word b of a planar tile; it is the same at each depth that has it.
@@ -396,20 +396,20 @@ pub fn put_tile(p: Packing, pixels: &[u8], from: usize, out: &mut [u8], at: usiz
 }
 
 // The first n words of a tile's bytes, each turned, and 0 for the others: byte x of a word has the bits of column x.
-fn turned_words(bytes: &[u8], n: usize) -> [u64; 8]
-    requires { ⌜ Reads (now bytes) n ⌝ }
-    ensures { λ r. ⌜ Turned (now (bytes .entry)) r ⌝ }
+fn column_words(bytes: &[u8], n: usize) -> [u64; 8]
+    requires { ⌜ WordsIn (now bytes) n ⌝ }
+    ensures { λ r. ⌜ Columns (now (bytes .entry)) r ⌝ }
 {
     let mut ws = [0u64; 8];
     let mut i = 0;
     while i < n {
-        ws[i] = flip(cross(word_at(bytes, i * 8)));
+        ws[i] = reverse_bytes(cross(word_at(bytes, i * 8)));
         i += 1;
     }
     ws
 }
 
-// Row r of a planar tile whose turned words are ws: planes alone, one bit of each word; in pairs two bits of every second word; in fours four
+// Row r of a planar tile whose columns are ws: planes alone, one bit of each word; in pairs two bits of every second word; in fours four
 // bits of every fourth.
 fn one_plane_row(ws: &[u64; 8], r: usize) -> u64
     requires { ⌜ Small (now ws) × (r < 8) ⌝ }
@@ -467,7 +467,7 @@ fn put_plane_rows(bytes: &[u8], group: usize, depth: usize, out: &mut [u8], at: 
     requires { ⌜ UnpacksWhole (Packing.Planar group depth) (now bytes) (now out) at ⌝ }
     ensures { λ _. ⌜ now (out .exit) ≡ sets (now (out .entry)) at (spread (planar group depth 8 8 .pixels) (now (bytes .entry))) ⌝ }
 {
-    let ws = turned_words(bytes, depth);
+    let ws = column_words(bytes, depth);
     let mut r = 0;
     while r < 8 {
         put_bytes(out, at + r * 8, planar_row(&ws, group, r));

@@ -1,5 +1,4 @@
--- `tile::byte_count` meets its contract: each packing has the bytes of its layout.
--- Assumes nothing.
+-- Each packing has the bytes of its layout.
 use native.Mathlib.Omega.{arith}
 use borrow.Author.Needs.{needs}
 use Rattle.tile.specs.declared.Packing.the-variants.{Planar, Sprite}

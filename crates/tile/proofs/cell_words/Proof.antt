@@ -1,5 +1,4 @@
--- `tile::cell_words` meets its contract: each turn reads a word, two a row.
--- Assumes nothing.
+-- Each turn reads a word, two a row.
 use mathlib.Core.Path.{_≡_, subst}
 use Prim.Native.Nat.{ℕ, _+_, _-_, _*_, _/_, _%_, _≤_, _<_}
 use native.Mathlib.Omega.{arith}

@@ -1,5 +1,4 @@
 -- `tile::cross` meets its contract, which says its exchanges.
--- Assumes nothing.
 use mathlib.Core.Path.{refl}
 use Rattle.tile.specs.Inner.{crossed}
 use Rattle.tile.proofs.cross.Statement.{statement}

@@ -1,5 +1,4 @@
--- `tile::four_row` meets its contract: where each of its bits comes from was computed.
--- Assumes nothing.
+-- Where each of its bits comes from was computed.
 use borrow.Author.Needs.{needs}
 use Rattle.tile.specs.Inner.{strands}
 use Rattle.tile.proofs.Wiring.{value}

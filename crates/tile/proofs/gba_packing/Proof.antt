@@ -1,5 +1,4 @@
--- `tile::gba_packing` meets its contract: nibbles at depth 4, else plain bytes.
--- Assumes nothing.
+-- Nibbles at depth 4, else plain bytes.
 use borrow.Author.Tests.{eq-eqb, ne-eqb}
 use Rattle.tile.proofs.gba_packing.Statement.{statement}
 use Rattle.tile.proofs.gba_packing.Tie as tie

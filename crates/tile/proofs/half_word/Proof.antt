@@ -1,5 +1,4 @@
--- `tile::half_word` meets its contract: where each of its bits comes from was computed.
--- Assumes nothing.
+-- Where each of its bits comes from was computed.
 use mathlib.Core.Path.{ap, _∙_}
 use Prim.Native.Nat.{ℕ, _*_, _/_, _^_}
 use lib.Bits.{bitAnd}

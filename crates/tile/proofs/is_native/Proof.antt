@@ -1,5 +1,4 @@
--- `tile::is_native` meets its contract: the six sizes of a sprite, else 8x8.
--- Assumes nothing.
+-- The six sizes of a sprite, else 8x8.
 use mathlib.Core.Path.{_≡_, sym, ap, _∙_}
 use mathlib.Core.Bool.{Bool, _&&_}
 use mathlib.Core.List.{[], _∷_}

@@ -1,5 +1,4 @@
--- `tile::is_sprite_height` meets its contract: 16, 32 or 64.
--- Assumes nothing.
+-- 16, 32 or 64.
 use mathlib.Core.Path.{sym}
 use borrow.Author.Tests.{eq-eqb, ne-eqb}
 use Rattle.tile.proofs.Packings.{or-none}

@@ -1,5 +1,4 @@
--- `tile::is_sprite_width` meets its contract: 16 or 32.
--- Assumes nothing.
+-- 16 or 32.
 use mathlib.Core.Path.{sym}
 use borrow.Author.Tests.{eq-eqb, ne-eqb}
 use Rattle.tile.proofs.Packings.{or-none}

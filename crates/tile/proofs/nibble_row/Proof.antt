@@ -1,5 +1,4 @@
--- `tile::nibble_row` meets its contract: the first pixel in the high nibble or in the low one.
--- Assumes nothing.
+-- The first pixel in the high nibble or in the low one.
 use mathlib.Core.Path.{sym, ap, _∙_}
 use mathlib.Core.Bool.{Bool}
 use borrow.Author.Needs.{needs}

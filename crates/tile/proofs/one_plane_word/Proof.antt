@@ -1,5 +1,4 @@
--- `tile::one_plane_word` meets its contract: where each of its bits comes from was computed.
--- Assumes nothing.
+-- Where each of its bits comes from was computed.
 use mathlib.Core.Path.{ap, _∙_}
 use Prim.Native.Nat.{ℕ}
 use lib.ListN.{getD}
@@ -7,7 +6,7 @@ use borrow.Author.Needs.{needs}
 use Rattle.tile.specs.Packings.{planar}
 use Rattle.tile.specs.Inner.{crossed}
 use Rattle.tile.proofs.Wiring.{value}
-use Rattle.tile.proofs.Wires.{word-is, cross, flip, cross-value, flip-value, one, part, eight, ones, ones-are}
+use Rattle.tile.proofs.Wires.{word-is, cross, backwards, cross-value, backwards-value, one, part, eight, ones, ones-are}
 use Rattle.tile.proofs.one_plane_word.Statement.{statement}
 use Rattle.tile.proofs.one_plane_word.Tie as tie
 
@@ -18,7 +17,7 @@ returns c =
     let a = s .args in
     let e : ℕ → ℕ = λ i. getD (a .ws .now) i 0 in
     let w = eight 0 (a .b) 0x0101010101010101 in
-    c .cross .ensures ∙ ap crossed (c .before .flip .ensures ∙ flip-value e w) ∙ cross-value e (flip w)
+    c .cross .ensures ∙ ap crossed (c .before .reverse-bytes .ensures ∙ backwards-value e w) ∙ cross-value e (backwards w)
     ∙ word-is (planar 1 8 8 8 .bytes) 8 ones ones-are (a .ws .now) (s .pre .0) (a .b) (s .pre .1)
 
 pub one-plane-word-spec : {M : Type 1} → statement M

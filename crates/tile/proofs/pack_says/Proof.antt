@@ -1,5 +1,4 @@
--- `tile::pack_says` meets its contract: each return is the lowest number that applies.
--- Assumes nothing.
+-- Each return is the lowest number that applies.
 use mathlib.Core.Path.{_≡_, sym, _∙_}
 use native.Mathlib.Omega.{arith}
 use borrow.Author.Needs.{needs}

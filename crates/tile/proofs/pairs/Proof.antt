@@ -1,5 +1,4 @@
--- `tile::pairs` meets its contract: a single plane stands alone.
--- Assumes nothing.
+-- A single plane stands alone.
 use borrow.Author.Tests.{ne-eqb}
 use Rattle.tile.proofs.pairs.Statement.{statement}
 use Rattle.tile.proofs.pairs.Tie as tie

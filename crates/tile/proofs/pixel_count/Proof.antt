@@ -1,5 +1,4 @@
--- `tile::pixel_count` meets its contract: 64 pixels, or those of a sprite.
--- Assumes nothing.
+-- 64 pixels, or those of a sprite.
 use mathlib.Core.Path.{refl}
 use native.Mathlib.Omega.{arith}
 use borrow.Author.Needs.{needs}

@@ -1,5 +1,4 @@
 -- `tile::planar_word` meets its contract, for each group.
--- Assumes nothing.
 use mathlib.Core.Path.{sym, ap, _∙_}
 use Prim.Native.Nat.{ℕ}
 use native.Mathlib.Omega.{arith}

@@ -1,5 +1,4 @@
--- `tile::planar_words` meets its contract: each turn makes a word.
--- Assumes nothing.
+-- Each turn makes a word.
 use mathlib.Core.Path.{_≡_}
 use Prim.Native.Nat.{ℕ, _-_, _≤_}
 use native.Mathlib.Omega.{arith}

@@ -1,5 +1,4 @@
--- `tile::put_bytes` meets its contract: the loop stores each byte in turn.
--- Assumes nothing.
+-- The loop stores each byte in turn.
 use mathlib.Core.List.{[], _∷_}
 use Prim.Native.Nat.{_-_, _≤_}
 use native.Mathlib.Omega.{arith}

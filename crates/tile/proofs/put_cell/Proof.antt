@@ -1,5 +1,4 @@
--- `tile::put_cell` meets its contract: each turn stores a word of the cell.
--- Assumes nothing.
+-- Each turn stores a word of the cell.
 use Prim.Native.Nat.{_-_, _≤_}
 use native.Mathlib.Omega.{arith}
 use borrow.Author.Needs.{needs}

@@ -1,5 +1,4 @@
--- `tile::put_ngp_rows` meets its contract: each turn stores a row of the pixels.
--- Assumes nothing.
+-- Each turn stores a row of the pixels.
 use Prim.Native.Nat.{_-_, _≤_}
 use native.Mathlib.Omega.{arith}
 use borrow.Author.Needs.{needs}

@@ -1,5 +1,4 @@
--- `tile::put_nibbles` meets its contract: each turn stores a word of the nibbles.
--- Assumes nothing.
+-- Each turn stores a word of the nibbles.
 use Prim.Native.Nat.{_-_, _≤_}
 use native.Mathlib.Omega.{arith}
 use borrow.Author.Needs.{needs}

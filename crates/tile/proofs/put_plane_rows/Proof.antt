@@ -1,5 +1,4 @@
--- `tile::put_plane_rows` meets its contract: each turn stores a row of the pixels.
--- Assumes nothing.
+-- Each turn stores a row of the pixels.
 use Prim.Native.Nat.{_-_, _≤_}
 use native.Mathlib.Omega.{arith}
 use borrow.Author.Needs.{needs}
@@ -7,7 +6,7 @@ use Rattle.words.proofs.Filling.{Filled, filled-none}
 use Rattle.tile.specs.Layout.{element}
 use Rattle.tile.specs.Packings.{planar}
 use Rattle.tile.proofs.Filling.{run, word-next, tile-stored}
-use Rattle.tile.proofs.Turned.{planar-row-is}
+use Rattle.tile.proofs.Columns.{planar-row-is}
 use Rattle.tile.proofs.Packings.{planes-of}
 use Rattle.tile.proofs.put_plane_rows.Statement.{statement}
 use Rattle.tile.proofs.put_plane_rows.Tie as tie
@@ -18,8 +17,8 @@ Inv-loop bytes group depth out₀ at ws r₀ out r = (r ≤ 8) × Filled (run (e
 abbrev μ-loop : tie.MeasureT-loop
 μ-loop bytes group depth out₀ at ws r₀ out r = 8 - r
 
-turned-words-requires : tie.Need-turned-words-requires Inv-loop μ-loop
-turned-words-requires c κs =
+column-words-requires : tie.Need-column-words-requires Inv-loop μ-loop
+column-words-requires c κs =
     let s = c .before .before in
     let deep = planes-of (s .args .group) (s .args .depth) (s .pre .sound) .deep in
     let h = s .pre .whole in
@@ -32,7 +31,7 @@ add-put-bytes : tie.Need-add-put-bytes Inv-loop μ-loop
 add-put-bytes c = omega (arith, c .before .before .before .before .before .before .pre .space)
 
 planar-row-requires : tie.Need-planar-row-requires Inv-loop μ-loop
-planar-row-requires c κs = let s = c .before .before .before .before .before .before .before in (c .before .before .before .before .turned-words .ensures .small, planes-of (s .args .group) (s .args .depth) (s .pre .sound) .group, omega arith)
+planar-row-requires c κs = let s = c .before .before .before .before .before .before .before in (c .before .before .before .before .column-words .ensures .small, planes-of (s .args .group) (s .args .depth) (s .pre .sound) .group, omega arith)
 
 put-bytes-requires : tie.Need-put-bytes-requires Inv-loop μ-loop
 put-bytes-requires c κs = omega (arith, c .before .before .before .before .loop .inv .1 .long, c .before .before .before .before .before .before .before .before .pre .space)
@@ -45,7 +44,7 @@ loop-again c =
     let s = c .before .before .before .before .before .before .before .before .before .before .before in
     let a = s .args in
     let l = c .before .before .before .before .before .before .before .loop in
-    let ws = c .before .before .before .before .before .before .before .before .turned-words in
+    let ws = c .before .before .before .before .before .before .before .before .column-words in
     let w = c .before .before .before .planar-row in
     (omega arith, word-next (element (planar (a .group) (a .depth) 8 8 .pixels) (a .bytes .now)) (w .result) (l .inv .1) (c .before .before .put-bytes .ensures) (planar-row-is (a .group) (a .depth) (s .pre .sound) (a .bytes .now) (ws .result) (l .r) (w .result) (ws .ensures) (omega (arith, s .pre .whole)) (omega arith) (w .ensures)))
 
@@ -61,7 +60,7 @@ put-plane-rows-spec =
     (tie.spec
     Inv-loop
     μ-loop
-    turned-words-requires
+    column-words-requires
     loop-holds
     (λ c. search needs)
     add-put-bytes

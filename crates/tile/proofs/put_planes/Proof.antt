@@ -1,5 +1,4 @@
--- `tile::put_planes` meets its contract: the words that it stores have the bytes of the planes.
--- Assumes nothing.
+-- The words that it stores have the bytes of the planes.
 use mathlib.Core.Path.{ap, _∙_}
 use mathlib.Core.List.{List}
 use Prim.Native.Nat.{ℕ, _*_}

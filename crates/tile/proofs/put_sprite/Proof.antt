@@ -1,5 +1,4 @@
--- `tile::put_sprite` meets its contract: each turn stores a cell.
--- Assumes nothing.
+-- Each turn stores a cell.
 use mathlib.Core.Path.{ap, _∙_}
 use mathlib.Core.List.{List, [], _∷_}
 use Prim.Native.Nat.{ℕ, _+_, _-_, _*_, _/_, _≤_}

@@ -1,5 +1,4 @@
--- `tile::put_sprite_row` meets its contract: each turn stores the row of a cell.
--- Assumes nothing.
+-- Each turn stores the row of a cell.
 use mathlib.Core.Path.{_≡_, ap, _∙_}
 use mathlib.Core.List.{[], _∷_}
 use Prim.Native.Nat.{ℕ, _+_, _-_, _*_, _/_, _≤_}
@@ -14,7 +13,7 @@ use Rattle.tile.specs.Layout.{element}
 use Rattle.tile.specs.Packings.{sprite}
 use Rattle.tile.specs.Inner.{bytesIn}
 use Rattle.tile.proofs.Filling.{run, words-next, words-stored}
-use Rattle.tile.proofs.Turned.{half-pixel}
+use Rattle.tile.proofs.Columns.{half-pixel}
 use Rattle.tile.proofs.Packings.{sized-of, rowAt, planes-inside}
 use Rattle.tile.proofs.Packed.{sprite-pixel}
 use Rattle.tile.proofs.put_sprite_row.Statement.{statement}

@@ -1,5 +1,4 @@
--- `tile::put_sprite_rows` meets its contract: each turn stores a row.
--- Assumes nothing.
+-- Each turn stores a row.
 use mathlib.Core.Path.{ap, _∙_}
 use mathlib.Core.List.{List, [], _∷_}
 use Prim.Native.Nat.{ℕ, _+_, _-_, _*_, _≤_, _<_}

@@ -1,5 +1,4 @@
--- `tile::put_tile` meets its contract: each arm stores what its packing says.
--- Assumes nothing.
+-- Each arm stores what its packing says.
 use mathlib.Core.Path.{ap, _∙_}
 use mathlib.Core.List.{List}
 use Prim.Native.Nat.{ℕ, _+_, _-_}

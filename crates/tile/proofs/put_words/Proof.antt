@@ -1,5 +1,4 @@
--- `tile::put_words` meets its contract: each turn stores the bytes of a word.
--- Assumes nothing.
+-- Each turn stores the bytes of a word.
 use mathlib.Core.Path.{refl}
 use Prim.Native.Nat.{_-_, _≤_}
 use native.Mathlib.Omega.{arith}

@@ -1,5 +1,4 @@
--- `tile::row_word` meets its contract: the loop makes the word from the top byte down.
--- Assumes nothing.
+-- The loop makes the word from the top byte down.
 use mathlib.Core.Path.{_≡_, refl, sym, ap, _∙_, subst}
 use Prim.Native.Nat.{ℕ, _+_, _-_, _*_, _/_, _%_, _^_, _≤_, _<_}
 use native.Mathlib.Omega.{arith}

@@ -1,5 +1,4 @@
--- `tile::some_too_large` meets its contract: the bits of all pixels reach 2^depth exactly where some pixel does.
--- Assumes nothing.
+-- The bits of all pixels reach 2^depth exactly where some pixel does.
 use mathlib.Core.Path.{_≡_, sym, ap, ap₂, _∙_, subst}
 use mathlib.Core.Bool.{Bool, _||_}
 use Prim.Native.Nat.{ℕ, _^_, _<_, _≤_, _-_}

@@ -1,5 +1,4 @@
--- `tile::tile_says` meets its contract: 1, 3 and 4 in this order.
--- Assumes nothing.
+-- 1, 3 and 4 in this order.
 use mathlib.Core.Path.{sym, _∙_}
 use borrow.Author.Tests.{lt-ltb, le-ltb, not-true, not-false}
 use borrow.Author.Needs.{needs}

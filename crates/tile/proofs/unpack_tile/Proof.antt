@@ -1,5 +1,4 @@
--- `tile::unpack_tile` meets its contract: refused with the number, or the tile's pixels at the front of the buffer.
--- Assumes nothing.
+-- Refused with the number, or the tile's pixels at the front of the buffer.
 use mathlib.Core.Path.{_≡_, refl, sym, ap, _∙_}
 use Prim.Native.Nat.{ℕ}
 use lib.ListN.{length}

@@ -1,5 +1,4 @@
--- `tile::word_at` meets its contract: the loop makes the word from the top byte down.
--- Assumes nothing.
+-- The loop makes the word from the top byte down.
 use mathlib.Core.Path.{_≡_, refl, ap, _∙_}
 use mathlib.Core.List.{List}
 use Prim.Native.Nat.{ℕ, _+_, _-_, _≤_}

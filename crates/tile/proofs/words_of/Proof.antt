@@ -1,5 +1,4 @@
--- `tile::words_of` meets its contract: each turn reads a word.
--- Assumes nothing.
+-- Each turn reads a word.
 use mathlib.Core.Path.{_≡_, subst}
 use Prim.Native.Nat.{ℕ, _-_, _*_, _≤_}
 use native.Mathlib.Omega.{arith}

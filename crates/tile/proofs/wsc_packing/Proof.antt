@@ -1,5 +1,4 @@
--- `tile::wsc_packing` meets its contract: a pair of planes at depth 2, else four planes a row.
--- Assumes nothing.
+-- A pair of planes at depth 2, else four planes a row.
 use borrow.Author.Tests.{eq-eqb, ne-eqb}
 use borrow.Author.Needs.{needs}
 use Rattle.tile.proofs.wsc_packing.Statement.{statement}

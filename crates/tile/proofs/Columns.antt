@@ -15,11 +15,11 @@ use Rattle.mode.specs.Table.{oneOf}
 use Rattle.tile.specs.Bits.{bitOf, fromBits}
 use Rattle.tile.specs.Layout.{element}
 use Rattle.tile.specs.Packings.{planar}
-use Rattle.tile.specs.Inner.{isPacking, wide, wordAt, byteIn, byteOf, Reads, Turned, wordFrom, HasWord, turn, strands, rowByte, half, crossed, flipped}
+use Rattle.tile.specs.Inner.{isPacking, wide, wordAt, byteIn, byteOf, WordsIn, Columns, wordFrom, HasWord, column, strands, rowByte, half, crossed, reversedBytes}
 use Rattle.tile.specs.declared.Packing.the-variants.{Planar}
 use Rattle.tile.proofs.Bits.{bit-lt, bits-same, bit-of-bits}
 use Rattle.tile.proofs.Wide.{wide-byte}
-use Rattle.tile.proofs.Wires.{turned-is}
+use Rattle.tile.proofs.Wires.{columns-is}
 use Rattle.tile.proofs.Filling.{Starts}
 use Rattle.tile.proofs.Sides.{Within, word-lt, word-byte, word-byte-at, word-small, starts-small, fewer-planes}
 use Rattle.tile.proofs.Packings.{each-at, planes-of}
@@ -32,11 +32,11 @@ only : (v q : ℕ) → q < 8 → byteOf (v ∷ []) q ≡ byteIn v q
 only v q l = ap₂ (λ (i m : ℕ). byteIn (getD (v ∷ []) i 0) m) (none q l) (omega arith)
 
 -- bit q of byte x of a turned word
-turned-bit : (v x q : ℕ) → v < 2 ^ 64 → x < 8 → q < 8 → bitOf q (byteIn (flipped (crossed v)) x) ≡ bitOf (7 - x) (byteIn v q)
-turned-bit v x q l lx lq =
+columns-bit : (v x q : ℕ) → v < 2 ^ 64 → x < 8 → q < 8 → bitOf q (byteIn (reversedBytes (crossed v)) x) ≡ bitOf (7 - x) (byteIn v q)
+columns-bit v x q l lx lq =
     let f : ℕ → ℕ = λ j. bitOf (7 - (0 * 8 + x)) (byteOf (v ∷ []) j) in
-    ap (λ (w : ℕ). bitOf q (byteIn w x)) (turned-is v l)
-    ∙ ap (bitOf q) (word-byte turn (v ∷ []) 0 x (omega arith) (λ j m. omega arith) lx)
+    ap (λ (w : ℕ). bitOf q (byteIn w x)) (columns-is v l)
+    ∙ ap (bitOf q) (word-byte column (v ∷ []) 0 x (omega arith) (λ j m. omega arith) lx)
     ∙ bit-of-bits 8 0 q f (λ j. bit-lt (7 - (0 * 8 + x)) (byteOf (v ∷ []) j)) lq
     ∙ ap₂ (λ (p j : ℕ). bitOf p (byteOf (v ∷ []) j)) (ap (λ (x : ℕ). 7 - x) (zero-add x)) (zero-add q)
     ∙ ap (bitOf (7 - x)) (only v q lq)
@@ -44,13 +44,13 @@ turned-bit v x q l lx lq =
 bit-of-none : (p q m : ℕ) → bitOf q (byteIn 0 m) ≡ bitOf p 0
 bit-of-none p q m = rw (zero-div (2 ^ (m * 8)), zero-div (2 ^ q), zero-div (2 ^ p))
 
-pub turned-read : {n : ℕ} {ws : List ℕ} (xs : List ℕ) → ((i : ℕ) → getD xs i 0 < 256) → Reads xs n → Starts 8 (λ (i v : ℕ). v ≡ flipped (crossed (wordAt xs (i * 8)))) n ws → Turned xs ws
-turned-read {n} {ws} xs small h st =
+pub columns-read : {n : ℕ} {ws : List ℕ} (xs : List ℕ) → ((i : ℕ) → getD xs i 0 < 256) → WordsIn xs n → Starts 8 (λ (i v : ℕ). v ≡ reversedBytes (crossed (wordAt xs (i * 8)))) n ws → Columns xs ws
+columns-read {n} {ws} xs small h st =
     record {
       are = λ k q lk lq. ⊎-elim (λ (no : n - k / 8 ≡ 0). ap (λ (w : ℕ). bitOf q (byteIn w (k % 8))) (st .none (k / 8) (omega arith)) ∙ bit-of-none (7 - k % 8) q (k % 8) ∙ ap (bitOf (7 - k % 8)) (sym (List·getD-eq-default xs 0 (omega (arith, h .ends (omega arith))))))
-          (λ (yes : 0 < n - k / 8). ap (λ (w : ℕ). bitOf q (byteIn w (k % 8))) (st .are (k / 8) (omega arith)) ∙ turned-bit (wordAt xs (k / 8 * 8)) (k % 8) q (word-small xs small (k / 8 * 8)) (omega arith) lq ∙ ap (bitOf (7 - k % 8)) (word-byte-at xs (k / 8 * 8) q small lq))
+          (λ (yes : 0 < n - k / 8). ap (λ (w : ℕ). bitOf q (byteIn w (k % 8))) (st .are (k / 8) (omega arith)) ∙ columns-bit (wordAt xs (k / 8 * 8)) (k % 8) q (word-small xs small (k / 8 * 8)) (omega arith) lq ∙ ap (bitOf (7 - k % 8)) (word-byte-at xs (k / 8 * 8) q small lq))
           (eq-zero-or-pos (n - k / 8));
-      small = starts-small (λ (i v : ℕ). v ≡ flipped (crossed (wordAt xs (i * 8)))) (λ i v e. subst (λ (w : ℕ). w < 2 ^ 64) (sym (e ∙ turned-is (wordAt xs (i * 8)) (word-small xs small (i * 8)))) (word-lt turn (wordAt xs (i * 8) ∷ []) 0)) st;
+      small = starts-small (λ (i v : ℕ). v ≡ reversedBytes (crossed (wordAt xs (i * 8)))) (λ i v e. subst (λ (w : ℕ). w < 2 ^ 64) (sym (e ∙ columns-is (wordAt xs (i * 8)) (word-small xs small (i * 8)))) (word-lt column (wordAt xs (i * 8) ∷ []) 0)) st;
     }
 
 -- ---- a row out of turned words, over the plane, the group and the depth
@@ -75,7 +75,7 @@ strand-place a b x c l = omega arith
 regroup : (q g b c : ℕ) → q * g * 8 + b + c ≡ q * (g * 8) + b + c
 regroup q g b c = omega arith
 
-pub planar-row-is : (g d : ℕ) → T (isPacking (Planar g d)) → (xs ts : List ℕ) (r w : ℕ) → Turned xs ts → length xs ≡ d * 8 → r < 8 → w ≡ wordFrom (strands g) ts r → HasWord (element (planar g d 8 8 .pixels) xs) r w
+pub planar-row-is : (g d : ℕ) → T (isPacking (Planar g d)) → (xs ts : List ℕ) (r w : ℕ) → Columns xs ts → length xs ≡ d * 8 → r < 8 → w ≡ wordFrom (strands g) ts r → HasWord (element (planar g d 8 8 .pixels) xs) r w
 planar-row-is g d t xs ts r w h len lr e m lm =
     let k = r * 8 + m in
     let within = strands-within g (both-left (oneOf g (1 ∷ 2 ∷ 4 ∷ [])) (ltb d 9 && eqb (d % g) 0) t) in
