@@ -122,9 +122,12 @@ sprite-pixel w h y x e m bs l le lm =
 plain-byte : (v : ℕ) → v < 256 → v ≡ fromBits 8 0 (λ j. bitOf j v)
 plain-byte v l = omega (arith, bits-of 8 0 v)
 
+pub all-of : (xs : List ℕ) (n : ℕ) → length xs ≡ n → each n (λ k. getD xs k 0 ∷ []) ≡ xs
+all-of xs n len = ap (λ (n : ℕ). each n (λ k. getD xs k 0 ∷ [])) (sym len) ∙ each-of xs
+
 plain-each : (xs : List ℕ) → length xs ≡ 64 → ((i : ℕ) → i < 64 → getD xs i 0 < 256) → xs ≡ each 64 (λ k. fromBits 8 0 (λ j. bitOf j (getD xs k 0)) ∷ [])
 plain-each xs len small =
-    sym (each-of xs) ∙ ap (λ (n : ℕ). each n (λ k. getD xs k 0 ∷ [])) len
+    sym (all-of xs 64 len)
     ∙ each-eq 64 (λ k. getD xs k 0 ∷ []) (λ k. fromBits 8 0 (λ j. bitOf j (getD xs k 0)) ∷ []) (λ k l. ap (λ (x : ℕ). x ∷ []) (plain-byte (getD xs k 0) (small k l)))
 
 pub plain-bytes : (xs : List ℕ) → length xs ≡ 64 → ((i : ℕ) → i < 64 → getD xs i 0 < 256) → xs ≡ spread (plain 8 8 .bytes) xs

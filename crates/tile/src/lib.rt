@@ -316,6 +316,18 @@ fn put_nibbles(tile: &[u8], high: bool, out: &mut [u8], at: usize)
     }
 }
 
+// Pixels that stand as they are, eight at a time: one at a time they would be moved one by one.
+fn put_plain(tile: &[u8], out: &mut [u8], at: usize)
+    requires { ⌜ (length (now tile) ≡ 64) × (at + 64 ≤ length (now out)) ⌝ }
+    ensures { λ _. ⌜ now (out .exit) ≡ sets (now (out .entry)) at (now (tile .entry)) ⌝ }
+{
+    let mut r = 0;
+    while r < 8 {
+        put_bytes(out, at + r * 8, word_at(tile, r * 8));
+        r += 1;
+    }
+}
+
 // The words of a cell, two a row: its first pixel stands at place from of a tile so wide.
 fn cell_words(tile: &[u8], from: usize, width: usize) -> [u64; 32]
     requires { ⌜ (width ≤ 32) × (from + 15 * width + 16 ≤ length (now tile)) ⌝ }
@@ -390,7 +402,7 @@ pub fn put_tile(p: Packing, pixels: &[u8], from: usize, out: &mut [u8], at: usiz
         Packing::Ngp => put_ngp(tile, out, at),
         Packing::LowFirst => put_nibbles(tile, false, out, at),
         Packing::HighFirst => put_nibbles(tile, true, out, at),
-        Packing::Plain => words::put(out, at, tile),
+        Packing::Plain => put_plain(tile, out, at),
         Packing::Sprite { width, height } => put_sprite(tile, width, height, out, at),
     }
 }
@@ -606,7 +618,7 @@ pub fn put_pixels(p: Packing, bytes: &[u8], from: usize, out: &mut [u8], at: usi
         Packing::Ngp => put_ngp_rows(tile, out, at),
         Packing::LowFirst => put_nibble_rows(tile, false, out, at),
         Packing::HighFirst => put_nibble_rows(tile, true, out, at),
-        Packing::Plain => words::put(out, at, tile),
+        Packing::Plain => put_plain(tile, out, at),
         Packing::Sprite { width, height } => put_sprite_rows(tile, width, height, out, at),
     }
 }

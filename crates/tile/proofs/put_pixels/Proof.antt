@@ -36,11 +36,11 @@ put-nibble-rows-requires-2 c κs =
     let h = unpacks-in HighFirst (t .1) (unpacks-whole (c .before .before .before .before .before .before .before .pre) (c .before .before .before .before .byte-count .ensures)) in
     (h .whole, h .space)
 
-put-requires : tie.Need-put-requires
-put-requires c κs =
+put-plain-requires : tie.Need-put-plain-requires
+put-plain-requires c κs =
     let t = c .before .enum-told4 .given in
     let h = unpacks-in Plain (t .1) (unpacks-whole (c .before .before .before .before .before .before .before .pre) (c .before .before .before .before .byte-count .ensures)) in
-    omega (arith, h .whole, h .space)
+    (h .whole, h .space)
 
 put-sprite-rows-requires : tie.Need-put-sprite-rows-requires
 put-sprite-rows-requires c κs =
@@ -87,7 +87,7 @@ returns-5 c =
     let t = c .before .before .before .before .enum-told4 .given in
     let h = unpacks-in Plain (t .1) (unpacks-whole (s .pre) (n .ensures)) in
     let tile = take (a .from + n .result - a .from) (drop (a .from) (a .bytes .now)) in
-    c .before .before .put .ensures
+    c .before .before .put-plain .ensures
     ∙ ap (λ (l : List ℕ). sets (a .out .now) (a .at) l) (plain-pixels tile (h .whole) (λ i l. part-small (a .bytes .now) (a .from) (a .from + n .result - a .from) i (λ i. c .before .before .before .before .before .before .before .before .before .shared-slice-known .given i .fits) (omega (arith, n .ensures, ap byteCount (t .1))))) ∙ same-pixels Plain (t .1) (a .bytes .now) (a .out .now) (a .at) (a .from) (n .result) (n .ensures)
 
 returns-6 : tie.Need-returns-6
@@ -116,7 +116,7 @@ put-pixels-spec =
     (λ c. search needs)
     put-nibble-rows-requires-2
     (λ c. search needs)
-    put-requires
+    put-plain-requires
     (λ c. search needs)
     put-sprite-rows-requires
     (λ c. search needs)

@@ -36,11 +36,11 @@ put-nibbles-requires-2 c κs =
     let h = packs-in HighFirst (t .1) (packs-whole (c .before .before .before .before .before .before .before .pre) (c .before .before .before .before .pixel-count .ensures)) in
     (h .whole, h .space)
 
-put-requires : tie.Need-put-requires
-put-requires c κs =
+put-plain-requires : tie.Need-put-plain-requires
+put-plain-requires c κs =
     let t = c .before .enum-told4 .given in
     let h = packs-in Plain (t .1) (packs-whole (c .before .before .before .before .before .before .before .pre) (c .before .before .before .before .pixel-count .ensures)) in
-    omega (arith, h .whole, h .space)
+    (h .whole, h .space)
 
 put-sprite-requires : tie.Need-put-sprite-requires
 put-sprite-requires c κs =
@@ -87,7 +87,7 @@ returns-5 c =
     let t = c .before .before .before .before .enum-told4 .given in
     let h = packs-in Plain (t .1) (packs-whole (s .pre) (n .ensures)) in
     let tile = take (a .from + n .result - a .from) (drop (a .from) (a .pixels .now)) in
-    c .before .before .put .ensures
+    c .before .before .put-plain .ensures
     ∙ ap (λ (l : List ℕ). sets (a .out .now) (a .at) l) (plain-bytes tile (h .whole) (λ i l. part-small (a .pixels .now) (a .from) (a .from + n .result - a .from) i (λ i. c .before .before .before .before .before .before .before .before .before .shared-slice-known .given i .fits) (omega (arith, n .ensures, ap pixelCount (t .1))))) ∙ same-bytes Plain (t .1) (a .pixels .now) (a .out .now) (a .at) (a .from) (n .result) (n .ensures)
 
 returns-6 : tie.Need-returns-6
@@ -116,7 +116,7 @@ put-tile-spec =
     (λ c. search needs)
     put-nibbles-requires-2
     (λ c. search needs)
-    put-requires
+    put-plain-requires
     (λ c. search needs)
     put-sprite-requires
     (λ c. search needs)
