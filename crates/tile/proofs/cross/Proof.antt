@@ -1,4 +1,4 @@
--- `tile::cross` meets its contract, which says its exchanges.
+-- Rows and columns of bits exchanged, by the exchanges that its contract says.
 use mathlib.Core.Path.{refl}
 use Rattle.tile.specs.Inner.{crossed}
 use Rattle.tile.proofs.cross.Statement.{statement}

@@ -1,4 +1,4 @@
--- `tile::planar_word` meets its contract, for each group.
+-- A word of a planar tile, for each group.
 use mathlib.Core.Path.{sym, ap, _∙_}
 use Prim.Native.Nat.{ℕ}
 use native.Mathlib.Omega.{arith}

@@ -1,5 +1,4 @@
--- `tile::put_plain` meets its contract: each turn moves eight.
--- Assumes nothing.
+-- Each turn moves eight.
 use mathlib.Core.Path.{ap, _∙_}
 use mathlib.Core.List.{List}
 use Prim.Native.Nat.{ℕ, _-_, _*_, _≤_}
