@@ -3,7 +3,7 @@
 use mathlib.Core.Path.{_≡_}
 use mathlib.Core.Bool.{Bool, true, false, cond}
 use mathlib.Core.List.{List}
-use Prim.Native.Nat.{ℕ, zero, suc, _+_, _-_, _*_, _%_, _<_, _≤_}
+use Prim.Native.Nat.{ℕ, _+_, _-_, _*_, _%_, _<_, _≤_}
 use lib.ListN.{length, getD}
 use Rattle.flip.specs.Flips.{turned}
 
@@ -27,18 +27,6 @@ abbrev pub RowAs : Bool → List ℕ → ℕ → List ℕ → ℕ → ℕ → Bo
 RowAs across store from tile i w true = RowAgrees across store from tile i w
 RowAs across store from tile i w false = RowAgrees across store from tile i w → ⊥
 
--- Some bytes as one number, the first the least; and eight pixels from place at on, turned or not.
-abbrev pub together : ℕ → (ℕ → ℕ) → ℕ
-together zero f = 0
-together (suc n) f = f 0 + 256 * together n (λ k. f (suc k))
-
-abbrev pub eightAt : Bool → List ℕ → ℕ → ℕ → ℕ
-eightAt across s at k = getD s (at + turned across 8 k) 0
-
 -- Where the eight pixels at place x of a row of w stand in the row.
 abbrev pub eightFrom : Bool → ℕ → ℕ → ℕ
 eightFrom across w x = cond across (w - 8 - x) x
-
-pub record Eight (across : Bool) (s : List ℕ) (at r : ℕ) : Type 0 where
-  pub is : r ≡ together 8 (eightAt across s at)
-  pub small : (k : ℕ) → k < 8 → eightAt across s at k < 256

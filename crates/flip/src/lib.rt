@@ -5,7 +5,7 @@ ghost use lib.ListN.{length, take, drop};
 ghost use Rattle.words.specs.Bytes.{same};
 ghost use Rattle.flip.specs.Flips.{turned, flipAt, flipped};
 ghost use Rattle.flip.specs.Matching.{matchFlip};
-ghost use Rattle.flip.specs.Inner.{RowAs, Compares, ComparesRow, Eight, eightFrom};
+ghost use Rattle.flip.specs.Inner.{RowAs, Compares, ComparesRow, eightFrom};
 
 // Which way a tile is turned: h reverses each row, v the order of rows.
 pub struct Flip {
@@ -38,40 +38,6 @@ pub fn flip_at(f: Flip, i: usize) -> usize
     turned(f.v, 8, i / 8) * 8 + turned(f.h, 8, i % 8)
 }
 
-// A pixel as a number that has room for eight of them.
-pub fn wide(b: u8) -> u64
-    ensures { λ r. ⌜ (r ≡ b) × (r < 256) ⌝ }
-{
-    b as u64
-}
-
-// Eight bytes as one number, the first the least.
-fn word(a: u64, b: u64, c: u64, d: u64, e: u64, f: u64, g: u64, h: u64) -> u64
-    requires { ⌜ (a < 256) × (b < 256) × (c < 256) × (d < 256) × (e < 256) × (f < 256) × (g < 256) × (h < 256) ⌝ }
-    ensures { λ r. ⌜ r ≡ a + 256 * (b + 256 * (c + 256 * (d + 256 * (e + 256 * (f + 256 * (g + 256 * h)))))) ⌝ }
-{
-    a + 256 * (b + 256 * (c + 256 * (d + 256 * (e + 256 * (f + 256 * (g + 256 * h))))))
-}
-
-// Eight pixels as one number, which compiles to one load: from the other end where the flip is on.
-fn eight(s: &[u8], at: usize, across: bool) -> u64
-    requires { ⌜ at + 8 ≤ length (now s) ⌝ }
-    ensures { λ r. ⌜ Eight across (now (s .entry)) at r ⌝ }
-{
-    let a = wide(s[at]);
-    let b = wide(s[at + 1]);
-    let c = wide(s[at + 2]);
-    let d = wide(s[at + 3]);
-    let e = wide(s[at + 4]);
-    let f = wide(s[at + 5]);
-    let g = wide(s[at + 6]);
-    let h = wide(s[at + 7]);
-    if across {
-        return word(h, g, f, e, d, c, b, a);
-    }
-    word(a, b, c, d, e, f, g, h)
-}
-
 // Where the eight pixels at place x of a row of so many stand in the row, turned or not.
 fn eight_from(across: bool, width: usize, x: usize) -> usize
     requires { ⌜ x + 8 ≤ width ⌝ }
@@ -90,8 +56,8 @@ fn same_row(store: &[u8], from: usize, tile: &[u8], i: usize, width: usize, acro
 {
     let mut x = 0;
     while x < width {
-        let stored = eight(store, from + eight_from(across, width, x), across);
-        if stored != eight(tile, i + x, false) {
+        let stored = words::word_at(store, from + eight_from(across, width, x), across);
+        if stored != words::word_at(tile, i + x, false) {
             return false;
         }
         x += 8;

@@ -25,7 +25,7 @@ fn pixel(tile: &[u8; 64], f: Flip, i: usize) -> u64
     ensures { λ r. ⌜ (r ≡ getD (flipped f 8 8 (now (tile .entry))) i 0) × (r < 256) ⌝ }
 {
     let k = flip::flip_at(f, i);
-    flip::wide(tile[k])
+    words::widen(tile[k])
 }
 
 // Four pixels of the tile under a flip as one number.

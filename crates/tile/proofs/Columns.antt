@@ -1,7 +1,7 @@
 -- Words that were turned once give the rows of every plane, at each depth and in each group; and the halves of a row of a sprite's cell.
 -- Assumes nothing.
 use mathlib.Core.Path.{_≡_, sym, ap, ap₂, _∙_, subst}
-use mathlib.Core.Bool.{Bool, _&&_}
+use mathlib.Core.Bool.{Bool, false, _&&_}
 use mathlib.Core.List.{List, [], _∷_}
 use mathlib.Core.Logic.{⊎-elim}
 use Prim.Native.Nat.{ℕ, _+_, _-_, _*_, _/_, _%_, _^_, _<_}
@@ -9,19 +9,20 @@ use native.Mathlib.Nat.{eq-zero-or-pos, zero-div, zero-add}
 use native.Mathlib.Omega.{arith}
 use lib.Dec.{T, ltb, eqb, ltb→lt}
 use lib.ListN.{List·getD-eq-default, length, getD}
+use Rattle.words.specs.Eights.{wide, wordAt, byteIn}
 use Rattle.words.specs.Inner.{all}
+use Rattle.words.proofs.Eights.{wide-byte, word-small, word-byte-at}
 use Rattle.words.proofs.Loops.{both-left, both-right, all-at}
 use Rattle.mode.specs.Table.{oneOf}
 use Rattle.tile.specs.Bits.{bitOf, fromBits}
 use Rattle.tile.specs.Layout.{element}
 use Rattle.tile.specs.Packings.{planar}
-use Rattle.tile.specs.Inner.{isPacking, wide, wordAt, byteIn, byteOf, WordsIn, Columns, wordFrom, HasWord, column, strands, rowByte, half, crossed, reversedBytes}
+use Rattle.tile.specs.Inner.{isPacking, byteOf, WordsIn, Columns, wordFrom, HasWord, column, strands, rowByte, half, crossed, reversedBytes}
 use Rattle.tile.specs.declared.Packing.the-variants.{Planar}
 use Rattle.tile.proofs.Bits.{bit-lt, bits-same, bit-of-bits}
-use Rattle.tile.proofs.Wide.{wide-byte}
 use Rattle.tile.proofs.Wires.{columns-is}
 use Rattle.tile.proofs.Filling.{Starts}
-use Rattle.tile.proofs.Sides.{Within, word-lt, word-byte, word-byte-at, word-small, starts-small, fewer-planes}
+use Rattle.tile.proofs.Sides.{Within, word-lt, word-byte, starts-small, fewer-planes}
 use Rattle.tile.proofs.Packings.{each-at, planes-of}
 
 -- a byte of the only word
@@ -44,13 +45,13 @@ columns-bit v x q l lx lq =
 bit-of-none : (p q m : ℕ) → bitOf q (byteIn 0 m) ≡ bitOf p 0
 bit-of-none p q m = rw (zero-div (2 ^ (m * 8)), zero-div (2 ^ q), zero-div (2 ^ p))
 
-pub columns-read : {n : ℕ} {ws : List ℕ} (xs : List ℕ) → ((i : ℕ) → getD xs i 0 < 256) → WordsIn xs n → Starts 8 (λ (i v : ℕ). v ≡ reversedBytes (crossed (wordAt xs (i * 8)))) n ws → Columns xs ws
+pub columns-read : {n : ℕ} {ws : List ℕ} (xs : List ℕ) → ((i : ℕ) → getD xs i 0 < 256) → WordsIn xs n → Starts 8 (λ (i v : ℕ). v ≡ reversedBytes (crossed (wordAt false xs (i * 8)))) n ws → Columns xs ws
 columns-read {n} {ws} xs small h st =
     record {
       are = λ k q lk lq. ⊎-elim (λ (no : n - k / 8 ≡ 0). ap (λ (w : ℕ). bitOf q (byteIn w (k % 8))) (st .none (k / 8) (omega arith)) ∙ bit-of-none (7 - k % 8) q (k % 8) ∙ ap (bitOf (7 - k % 8)) (sym (List·getD-eq-default xs 0 (omega (arith, h .ends (omega arith))))))
-          (λ (yes : 0 < n - k / 8). ap (λ (w : ℕ). bitOf q (byteIn w (k % 8))) (st .are (k / 8) (omega arith)) ∙ columns-bit (wordAt xs (k / 8 * 8)) (k % 8) q (word-small xs small (k / 8 * 8)) (omega arith) lq ∙ ap (bitOf (7 - k % 8)) (word-byte-at xs (k / 8 * 8) q small lq))
+          (λ (yes : 0 < n - k / 8). ap (λ (w : ℕ). bitOf q (byteIn w (k % 8))) (st .are (k / 8) (omega arith)) ∙ columns-bit (wordAt false xs (k / 8 * 8)) (k % 8) q (word-small xs small false (k / 8 * 8)) (omega arith) lq ∙ ap (bitOf (7 - k % 8)) (word-byte-at xs small false (k / 8 * 8) q lq))
           (eq-zero-or-pos (n - k / 8));
-      small = starts-small (λ (i v : ℕ). v ≡ reversedBytes (crossed (wordAt xs (i * 8)))) (λ i v e. subst (λ (w : ℕ). w < 2 ^ 64) (sym (e ∙ columns-is (wordAt xs (i * 8)) (word-small xs small (i * 8)))) (word-lt column (wordAt xs (i * 8) ∷ []) 0)) st;
+      small = starts-small (λ (i v : ℕ). v ≡ reversedBytes (crossed (wordAt false xs (i * 8)))) (λ i v e. subst (λ (w : ℕ). w < 2 ^ 64) (sym (e ∙ columns-is (wordAt false xs (i * 8)) (word-small xs small false (i * 8)))) (word-lt column (wordAt false xs (i * 8) ∷ []) 0)) st;
     }
 
 -- ---- a row out of turned words, over the plane, the group and the depth

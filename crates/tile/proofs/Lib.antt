@@ -3,7 +3,6 @@ pub mod Filling
 pub mod RoundTrip
 pub mod WordBits
 pub mod Wiring
-pub mod Wide
 pub mod Wires
 pub mod Sides
 pub mod Packings

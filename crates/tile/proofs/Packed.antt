@@ -14,7 +14,8 @@ use Rattle.words.proofs.Filling.{each-of}
 use Rattle.tile.specs.Bits.{bitOf, fromBits}
 use Rattle.tile.specs.Layout.{Layout, element, spread}
 use Rattle.tile.specs.Packings.{planar, ngp, plain, sprite, spriteByte}
-use Rattle.tile.specs.Inner.{isPacking, nibbles, byteIn, byteOf, WordsOf, CellOf, wordFrom, HasWord, cell, cellByte}
+use Rattle.words.specs.Eights.{byteIn}
+use Rattle.tile.specs.Inner.{isPacking, nibbles, byteOf, WordsOf, CellOf, wordFrom, HasWord, cell, cellByte}
 use Rattle.tile.specs.declared.Packing.the-variants.{Planar}
 use Rattle.tile.proofs.Bits.{bits-same, bits-of}
 use Rattle.tile.proofs.Filling.{spread-is}

@@ -11,12 +11,14 @@ use lib.Dec.{T, ltb}
 use lib.Pow.{pow-pos}
 use lib.ListN.{List·getD-eq-default, length, getD}
 use borrow.Author.Tests.{le-ltb, lt-ltb}
+use Rattle.words.specs.Eights.{wordAt, byteIn}
+use Rattle.words.proofs.Eights.{word-small, word-byte-at}
 use Rattle.tile.specs.Bits.{bitOf, fromBits}
 use Rattle.tile.specs.Layout.{Side, element}
 use Rattle.tile.specs.Packings.{planar}
-use Rattle.tile.specs.Inner.{Planes, gate, wordFrom, wordAt, Small, WordsOf, CellOf, byteIn, byteOf, HasWord}
-use Rattle.tile.proofs.Bits.{bit-lt, bits-lt, bits-same, bits-split}
-use Rattle.tile.proofs.Wide.{byte-of, bit-in-byte, wide-byte, wide-full}
+use Rattle.tile.specs.Inner.{Planes, gate, wordFrom, Small, WordsOf, CellOf, byteOf, HasWord}
+use Rattle.tile.proofs.Bits.{bit-lt, bits-lt, bits-same, bits-split, field, bit-of-bits}
+use Rattle.tile.proofs.WordBits.{bit-low, bit-shr}
 use Rattle.tile.proofs.Filling.{Starts}
 
 gate-lt : (l : Bool) (v : ℕ) → v < 2 → gate l v < 2
@@ -46,6 +48,16 @@ bits-short n d f l h =
     ∙ ap (λ (x : ℕ). fromBits d 0 f + 2 ^ d * x) (bits-zero (n - d) (0 + d) f (λ j a b. h j (omega arith) (omega arith))) ∙ omega arith
 
 -- ---- a byte of a word that is made as a side says
+
+bit-in-byte : (p j w : ℕ) → p < 8 → bitOf (j * 8 + p) w ≡ bitOf p (w / 2 ^ (j * 8) % 256)
+bit-in-byte p j w l = sym (bit-shr p w (j * 8)) ∙ sym (bit-low p (w / 2 ^ (j * 8)) 8 l)
+
+-- a byte of a word that is given by its bits
+byte-of : (k : ℕ) (f : ℕ → ℕ) → ((j : ℕ) → f j < 2) → k < 8 → fromBits 64 0 f / 2 ^ (k * 8) % 256 ≡ fromBits 8 0 (λ j. f (k * 8 + j))
+byte-of k f h l =
+    sym (field 8 (k * 8) (fromBits 64 0 f))
+    ∙ bits-same 8 0 (λ j. bitOf (k * 8 + j) (fromBits 64 0 f)) (λ j. f (k * 8 + j))
+    (λ j a b. bit-of-bits 64 0 (k * 8 + j) f h (omega arith) ∙ ap f (zero-add (k * 8 + j)))
 
 pub word-byte : (s : Side) (ws : List ℕ) (b m : ℕ) → s .bits ≤ 8 → ((j : ℕ) → j < s .bits → s .place (b * 8 + m) j < 8) → m < 8
     → byteIn (wordFrom s ws b) m ≡ fromBits (s .bits) 0 (λ j. bitOf (s .place (b * 8 + m) j) (byteOf ws (s .from (b * 8 + m) j)))
@@ -81,9 +93,6 @@ has-word s n xs ws b w lb within read lk e m lm =
 
 -- ---- words that were read
 
-pub word-byte-at : (xs : List ℕ) (at m : ℕ) → ((i : ℕ) → getD xs i 0 < 256) → m < 8 → byteIn (wordAt xs at) m ≡ getD xs (at + m) 0
-word-byte-at xs at m small l = wide-byte 8 0 m (λ x. getD xs (at + x) 0) (λ x. small (at + x)) l ∙ ap (λ (x : ℕ). getD xs (at + x) 0) (zero-add m)
-
 -- words of 64 bits: those that are as f says, and 0 for the others
 pub starts-small : {size n : ℕ} {ws : List ℕ} (f : ℕ → ℕ → Type 0) → ((i v : ℕ) → f i v → v < 2 ^ 64) → Starts size f n ws → Small ws
 starts-small {size} {n} f small st k =
@@ -95,20 +104,17 @@ cell-place : (from w k : ℕ) → from + k / 8 / 2 * w + k / 8 % 2 * 8 + k % 8 �
 cell-place from w k = let y : k / 8 / 2 ≡ k / 16 = omega arith in rw y (omega arith)
 
 module _ (xs : List ℕ) (small : (i : ℕ) → getD xs i 0 < 256) where
-  pub word-small : (at : ℕ) → wordAt xs at < 2 ^ 64
-  word-small at = wide-full 8 (λ x. getD xs (at + x) 0) (λ x. small (at + x)) (omega arith)
-
   -- a word each where from says
-  pub starts-at : {size n : ℕ} {ws : List ℕ} (from : ℕ → ℕ) → Starts size (λ (i v : ℕ). v ≡ wordAt xs (from i)) n ws → (k : ℕ) → k < n * 8 → byteOf ws k ≡ getD xs (from (k / 8) + k % 8) 0
-  starts-at from st k l = ap (λ (w : ℕ). byteIn w (k % 8)) (st .are (k / 8) (omega arith)) ∙ word-byte-at xs (from (k / 8)) (k % 8) small (omega arith)
+  pub starts-at : {size n : ℕ} {ws : List ℕ} (from : ℕ → ℕ) → Starts size (λ (i v : ℕ). v ≡ wordAt false xs (from i)) n ws → (k : ℕ) → k < n * 8 → byteOf ws k ≡ getD xs (from (k / 8) + k % 8) 0
+  starts-at from st k l = ap (λ (w : ℕ). byteIn w (k % 8)) (st .are (k / 8) (omega arith)) ∙ word-byte-at xs small false (from (k / 8)) (k % 8) (omega arith)
 
-  pub starts-fit : {size n : ℕ} {ws : List ℕ} (from : ℕ → ℕ) → Starts size (λ (i v : ℕ). v ≡ wordAt xs (from i)) n ws → Small ws
-  starts-fit from st = starts-small (λ (i v : ℕ). v ≡ wordAt xs (from i)) (λ i v e. subst (λ (v : ℕ). v < 2 ^ 64) (sym e) (word-small (from i))) st
+  pub starts-fit : {size n : ℕ} {ws : List ℕ} (from : ℕ → ℕ) → Starts size (λ (i v : ℕ). v ≡ wordAt false xs (from i)) n ws → Small ws
+  starts-fit from st = starts-small (λ (i v : ℕ). v ≡ wordAt false xs (from i)) (λ i v e. subst (λ (v : ℕ). v < 2 ^ 64) (sym e) (word-small xs small false (from i))) st
 
-  pub words-read : {n : ℕ} {ws : List ℕ} → Starts 8 (λ (i v : ℕ). v ≡ wordAt xs (i * 8)) n ws → WordsOf xs n ws
+  pub words-read : {n : ℕ} {ws : List ℕ} → Starts 8 (λ (i v : ℕ). v ≡ wordAt false xs (i * 8)) n ws → WordsOf xs n ws
   words-read st = record { are = λ k l. starts-at (λ i. i * 8) st k l ∙ ap (λ (x : ℕ). getD xs x 0) (omega arith); small = starts-fit (λ i. i * 8) st }
 
-  pub cell-read : {ws : List ℕ} (from w : ℕ) → Starts 32 (λ (i v : ℕ). v ≡ wordAt xs (from + i / 2 * w + i % 2 * 8)) 32 ws → CellOf xs from w ws
+  pub cell-read : {ws : List ℕ} (from w : ℕ) → Starts 32 (λ (i v : ℕ). v ≡ wordAt false xs (from + i / 2 * w + i % 2 * 8)) 32 ws → CellOf xs from w ws
   cell-read from w st =
       record {
         are = λ k l. starts-at (λ i. from + i / 2 * w + i % 2 * 8) st k (omega arith) ∙ ap (λ (x : ℕ). getD xs x 0) (cell-place from w k);

@@ -7,7 +7,7 @@ use Prim.Native.Nat.{ℕ, zero, suc, _+_, _-_, _*_, _/_, _%_, _^_, _≤_, _<_}
 use lib.Bits.{bitAnd, bitOr}
 use lib.Dec.{T, ltb, eqb}
 use lib.ListN.{length, getD}
-use Rattle.words.specs.Loops.{each}
+use Rattle.words.specs.Eights.{byteIn}
 use Rattle.mode.specs.Table.{oneOf}
 use Rattle.tile.specs.Bits.{bitOf, fromBits}
 use Rattle.tile.specs.Packings.{layoutIn, lowFirst, highFirst}
@@ -78,22 +78,7 @@ nibbles high = cond high (highFirst 8 8) (lowFirst 8 8)
 
 -- ---- words of eight bytes, the first at the bottom
 
--- The number whose bytes, lowest first, are f at, f (at + 1), .., n of them.
-unfoldable pub wide : ℕ → ℕ → (ℕ → ℕ) → ℕ
-wide zero at f = 0
-wide (suc n) at f = f at + 256 * wide n (suc at) f
-
--- The word of the eight bytes from place at on.
-abbrev pub wordAt : List ℕ → ℕ → ℕ
-wordAt xs at = wide 8 0 (λ x. getD xs (at + x) 0)
-
--- Byte m of a word, all eight, and byte k of words.
-abbrev pub byteIn : ℕ → ℕ → ℕ
-byteIn w m = w / 2 ^ (m * 8) % 256
-
-abbrev pub bytesIn : ℕ → List ℕ
-bytesIn w = each 8 (λ m. byteIn w m ∷ [])
-
+-- Byte k of words.
 abbrev pub byteOf : List ℕ → ℕ → ℕ
 byteOf ws k = byteIn (getD ws (k / 8) 0) (k % 8)
 

@@ -10,11 +10,12 @@ ghost use lib.Dec.{T};
 ghost use lib.ListN.{length, getD, take, drop};
 ghost use lib.Seq.{sets};
 ghost use Rattle.words.specs.Answers.{Wrote};
+ghost use Rattle.words.specs.Eights.{wide, bytesIn};
 ghost use Rattle.words.specs.Loops.{each, some};
 ghost use Rattle.mode.specs.Table.{oneOf};
 ghost use Rattle.tile.specs.Layout.{element, spread};
 ghost use Rattle.tile.specs.Packings.{planar, ngp, lowFirst, highFirst, sprite};
-ghost use Rattle.tile.specs.Inner.{pixelCount, byteCount, packedIn, unpackedIn, isPacking, Packs, Unpacks, PacksWhole, UnpacksWhole, Group, nibbles, wordAt, byteIn, bytesIn, Small, WordsOf, CellOf, WordsIn, Columns, wordFrom, WordsFrom, strands, cell, cellByte, rowByte, half, wide, crossed, reversedBytes};
+ghost use Rattle.tile.specs.Inner.{pixelCount, byteCount, packedIn, unpackedIn, isPacking, Packs, Unpacks, PacksWhole, UnpacksWhole, Group, nibbles, Small, WordsOf, CellOf, WordsIn, Columns, wordFrom, WordsFrom, strands, cell, cellByte, rowByte, half, crossed, reversedBytes};
 ghost use Rattle.tile.specs.Tile.{pairs, fours, gbaPacking, wscPacking, packingOf, isNative, tooLarge, tileSays, packSays, unpackSays, packed, unpacked};
 
 // How the bits of a tile's pixels stand in its bytes.
@@ -60,26 +61,6 @@ pub fn byte_count(p: Packing) -> usize
     }
 }
 
-fn widen(b: u8) -> u64
-    ensures { λ r. ⌜ r ≡ b ⌝ }
-{
-    b as u64
-}
-
-// The word of the eight bytes from place at on, the first at the bottom.
-fn word_at(bytes: &[u8], at: usize) -> u64
-    requires { ⌜ at + 8 ≤ length (now bytes) ⌝ }
-    ensures { λ r. ⌜ r ≡ wordAt (now (bytes .entry)) at ⌝ }
-{
-    let mut w: u64 = 0;
-    let mut n = 0;
-    while n < 8 {
-        w = w * 256 + widen(bytes[at + (7 - n)]);
-        n += 1;
-    }
-    w
-}
-
 // The first n words of a tile, and 0 for the others.
 fn words_of(bytes: &[u8], n: usize) -> [u64; 8]
     requires { ⌜ (n ≤ 8) × (n * 8 ≤ length (now bytes)) ⌝ }
@@ -88,29 +69,10 @@ fn words_of(bytes: &[u8], n: usize) -> [u64; 8]
     let mut ws = [0u64; 8];
     let mut i = 0;
     while i < n {
-        ws[i] = word_at(bytes, i * 8);
+        ws[i] = words::word_at(bytes, i * 8, false);
         i += 1;
     }
     ws
-}
-
-fn byte(w: u64, m: usize) -> u8
-    requires { ⌜ m < 8 ⌝ }
-    ensures { λ r. ⌜ r ≡ byteIn w m ⌝ }
-{
-    ((w >> (m * 8)) % 256) as u8
-}
-
-// The bytes of a word, from place at of out on.
-fn put_bytes(out: &mut [u8], at: usize, w: u64)
-    requires { ⌜ at + 8 ≤ length (now out) ⌝ }
-    ensures { λ _. ⌜ now (out .exit) ≡ sets (now (out .entry)) at (bytesIn w) ⌝ }
-{
-    let mut m = 0;
-    while m < 8 {
-        out[at + m] = byte(w, m);
-        m += 1;
-    }
 }
 
 // The bytes of n words, from place at of out on.
@@ -120,7 +82,7 @@ fn put_words(out: &mut [u8], at: usize, ws: &[u64; 8], n: usize)
 {
     let mut i = 0;
     while i < n {
-        put_bytes(out, at + i * 8, ws[i]);
+        words::put_bytes(out, at + i * 8, ws[i]);
         i += 1;
     }
 }
@@ -260,7 +222,7 @@ fn put_ngp(tile: &[u8], out: &mut [u8], at: usize)
     let ws = words_of(tile, 8);
     let mut b = 0;
     while b < 2 {
-        put_bytes(out, at + b * 8, ngp_word(&ws, b));
+        words::put_bytes(out, at + b * 8, ngp_word(&ws, b));
         b += 1;
     }
 }
@@ -311,19 +273,19 @@ fn put_nibbles(tile: &[u8], high: bool, out: &mut [u8], at: usize)
     let ws = words_of(tile, 8);
     let mut b = 0;
     while b < 4 {
-        put_bytes(out, at + b * 8, nibble_word(&ws, high, b));
+        words::put_bytes(out, at + b * 8, nibble_word(&ws, high, b));
         b += 1;
     }
 }
 
-// Pixels that stand as they are, eight at a time: one at a time they would be moved one by one.
+// Pixels that stand as they are, eight at a time.
 fn put_plain(tile: &[u8], out: &mut [u8], at: usize)
     requires { ⌜ (length (now tile) ≡ 64) × (at + 64 ≤ length (now out)) ⌝ }
     ensures { λ _. ⌜ now (out .exit) ≡ sets (now (out .entry)) at (now (tile .entry)) ⌝ }
 {
     let mut r = 0;
     while r < 8 {
-        put_bytes(out, at + r * 8, word_at(tile, r * 8));
+        words::put_eight(tile, r * 8, false, out, at + r * 8);
         r += 1;
     }
 }
@@ -336,7 +298,7 @@ fn cell_words(tile: &[u8], from: usize, width: usize) -> [u64; 32]
     let mut ws = [0u64; 32];
     let mut i = 0;
     while i < 32 {
-        ws[i] = word_at(tile, from + i / 2 * width + i % 2 * 8);
+        ws[i] = words::word_at(tile, from + i / 2 * width + i % 2 * 8, false);
         i += 1;
     }
     ws
@@ -369,7 +331,7 @@ fn put_cell(tile: &[u8], from: usize, width: usize, out: &mut [u8], at: usize)
     let ws = cell_words(tile, from, width);
     let mut b = 0;
     while b < 16 {
-        put_bytes(out, at + b * 8, cell_word(&ws, b));
+        words::put_bytes(out, at + b * 8, cell_word(&ws, b));
         b += 1;
     }
 }
@@ -415,7 +377,7 @@ fn column_words(bytes: &[u8], n: usize) -> [u64; 8]
     let mut ws = [0u64; 8];
     let mut i = 0;
     while i < n {
-        ws[i] = reverse_bytes(cross(word_at(bytes, i * 8)));
+        ws[i] = reverse_bytes(cross(words::word_at(bytes, i * 8, false)));
         i += 1;
     }
     ws
@@ -482,7 +444,7 @@ fn put_plane_rows(bytes: &[u8], group: usize, depth: usize, out: &mut [u8], at: 
     let ws = column_words(bytes, depth);
     let mut r = 0;
     while r < 8 {
-        put_bytes(out, at + r * 8, planar_row(&ws, group, r));
+        words::put_bytes(out, at + r * 8, planar_row(&ws, group, r));
         r += 1;
     }
 }
@@ -506,7 +468,7 @@ fn put_ngp_rows(bytes: &[u8], out: &mut [u8], at: usize)
     let ws = words_of(bytes, 2);
     let mut r = 0;
     while r < 8 {
-        put_bytes(out, at + r * 8, ngp_row(&ws, r));
+        words::put_bytes(out, at + r * 8, ngp_row(&ws, r));
         r += 1;
     }
 }
@@ -551,7 +513,7 @@ fn put_nibble_rows(bytes: &[u8], high: bool, out: &mut [u8], at: usize)
     let ws = words_of(bytes, 4);
     let mut r = 0;
     while r < 8 {
-        put_bytes(out, at + r * 8, nibble_row(&ws, high, r));
+        words::put_bytes(out, at + r * 8, nibble_row(&ws, high, r));
         r += 1;
     }
 }
@@ -564,7 +526,7 @@ fn row_word(bytes: &[u8], k: usize) -> u64
     let mut w: u64 = 0;
     let mut n = 0;
     while n < 8 {
-        w = w * 256 + widen(bytes[k + (7 - n) % 4 * 32 + (7 - n) / 4]);
+        w = w * 256 + words::widen(bytes[k + (7 - n) % 4 * 32 + (7 - n) / 4]);
         n += 1;
     }
     w
@@ -589,8 +551,8 @@ fn put_sprite_row(bytes: &[u8], width: usize, height: usize, y: usize, out: &mut
     let mut x = 0;
     while x < n {
         let w = row_word(bytes, x * column + row);
-        put_bytes(out, at + x * 16, half_word(w, 0));
-        put_bytes(out, at + x * 16 + 8, half_word(w, 1));
+        words::put_bytes(out, at + x * 16, half_word(w, 0));
+        words::put_bytes(out, at + x * 16 + 8, half_word(w, 1));
         x += 1;
     }
 }

@@ -1,6 +1,7 @@
 pub mod Answers
 pub mod Bits
 pub mod Bytes
+pub mod Eights
 pub mod Fields
 pub mod Filling
 pub mod Items

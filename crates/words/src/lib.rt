@@ -8,6 +8,7 @@ ghost use lib.ListN.{length, take, drop};
 ghost use lib.Seq.{sets};
 ghost use Rattle.words.specs.Answers.{written, numbered};
 ghost use Rattle.words.specs.Bytes.{bit, bytesOf, wordOf, same};
+ghost use Rattle.words.specs.Eights.{wordAt, eight, byteIn, bytesIn};
 
 // What a call that writes bytes answers: document 01's number, and how many bytes it wrote.
 #[repr(C)]
@@ -153,4 +154,65 @@ pub fn put(out: &mut [u8], at: usize, bytes: &[u8])
         out[at + i] = bytes[i];
         i += 1;
     }
+}
+
+// A byte as a number that has room for eight of them.
+pub fn widen(b: u8) -> u64
+    ensures { λ r. ⌜ (r ≡ b) × (r < 256) ⌝ }
+{
+    b as u64
+}
+
+// Eight bytes as one number, the first the least.
+fn word(a: u64, b: u64, c: u64, d: u64, e: u64, f: u64, g: u64, h: u64) -> u64
+    requires { ⌜ (a < 256) × (b < 256) × (c < 256) × (d < 256) × (e < 256) × (f < 256) × (g < 256) × (h < 256) ⌝ }
+    ensures { λ r. ⌜ r ≡ a + 256 * (b + 256 * (c + 256 * (d + 256 * (e + 256 * (f + 256 * (g + 256 * h)))))) ⌝ }
+{
+    a + 256 * (b + 256 * (c + 256 * (d + 256 * (e + 256 * (f + 256 * (g + 256 * h))))))
+}
+
+// The eight bytes from place at on as one word, the first at the bottom; read back, at the top. It compiles to one load.
+pub fn word_at(s: &[u8], at: usize, back: bool) -> u64
+    requires { ⌜ at + 8 ≤ length (now s) ⌝ }
+    ensures { λ r. ⌜ r ≡ wordAt back (now (s .entry)) at ⌝ }
+{
+    let a = widen(s[at]);
+    let b = widen(s[at + 1]);
+    let c = widen(s[at + 2]);
+    let d = widen(s[at + 3]);
+    let e = widen(s[at + 4]);
+    let f = widen(s[at + 5]);
+    let g = widen(s[at + 6]);
+    let h = widen(s[at + 7]);
+    if back {
+        return word(h, g, f, e, d, c, b, a);
+    }
+    word(a, b, c, d, e, f, g, h)
+}
+
+fn byte(w: u64, m: usize) -> u8
+    requires { ⌜ m < 8 ⌝ }
+    ensures { λ r. ⌜ r ≡ byteIn w m ⌝ }
+{
+    ((w >> (m * 8)) % 256) as u8
+}
+
+// The bytes of a word, from place at of out on.
+pub fn put_bytes(out: &mut [u8], at: usize, w: u64)
+    requires { ⌜ at + 8 ≤ length (now out) ⌝ }
+    ensures { λ _. ⌜ now (out .exit) ≡ sets (now (out .entry)) at (bytesIn w) ⌝ }
+{
+    let mut m = 0;
+    while m < 8 {
+        out[at + m] = byte(w, m);
+        m += 1;
+    }
+}
+
+// Eight bytes, from place from of s on, or back from their end, moved to place at of out: as one word, for one by one they would be moved so.
+pub fn put_eight(s: &[u8], from: usize, back: bool, out: &mut [u8], at: usize)
+    requires { ⌜ (from + 8 ≤ length (now s)) × (at + 8 ≤ length (now out)) ⌝ }
+    ensures { λ _. ⌜ now (out .exit) ≡ sets (now (out .entry)) at (eight back (now (s .entry)) from) ⌝ }
+{
+    put_bytes(out, at, word_at(s, from, back));
 }

@@ -1,12 +1,13 @@
 -- A row is compared by eights: all places before x agree.
-use mathlib.Core.Path.{_≡_, subst}
+use mathlib.Core.Path.{_≡_, ap, _∙_}
 use Prim.Native.Nat.{ℕ, _<_, _≤_, _-_, _+_, _%_}
 use native.Mathlib.Omega.{arith}
 use lib.ListN.{getD}
 use denote.Ref.{now}
 use borrow.Author.Needs.{needs}
+use Rattle.words.specs.Eights.{wordAt}
 use Rattle.flip.specs.Flips.{turned}
-use Rattle.flip.specs.Inner.{Eight, eightFrom}
+use Rattle.flip.specs.Inner.{eightFrom}
 use Rattle.flip.proofs.Eights.{eight-left, eight-differs, eight-agrees}
 use Rattle.flip.proofs.same_row.Statement.{statement}
 use Rattle.flip.proofs.same_row.Tie as tie
@@ -21,30 +22,44 @@ abbrev μ-loop : tie.MeasureT-loop
 left : (c : tie.In-loop Inv-loop μ-loop) → c .before .loop .x + 8 ≤ c .before .before .before .before .args .width
 left c = eight-left _ _ (c .before .before .before .before .pre .eights) (c .before .loop .inv .1) (c .loop-test .taken)
 
-module _ (c : tie.After-eight2 Inv-loop μ-loop) where
+module _ (c : tie.After-word-at2 Inv-loop μ-loop) where
+  abbrev turn : tie.In-loop Inv-loop μ-loop
+  turn = c .before .before .before
+
   abbrev start : tie.Start Inv-loop μ-loop
-  start = c .before .before .before .before .before .before .before
+  start = turn .before .before .before .before
 
-  abbrev from-at : ℕ → Type 0
-  from-at e = Eight (start .args .across) (now (start .args .store)) (start .args .from + e) (c .before .eight .result)
+  abbrev x : ℕ
+  x = turn .before .loop .x
 
-  stored : from-at (eightFrom (start .args .across) (start .args .width) (c .before .before .before .before .loop .x))
-  stored = subst from-at (c .before .before .eight-from .ensures .0) (c .before .eight .ensures)
+  abbrev word : ℕ → ℕ
+  word e = wordAt (start .args .across) (now (start .args .store)) (start .args .from + e)
+
+  stored : c .before .word-at .result ≡ word (eightFrom (start .args .across) (start .args .width) x)
+  stored = c .before .word-at .ensures ∙ ap word (c .before .before .eight-from .ensures .0)
 
 loop-holds : tie.Need-loop-holds Inv-loop μ-loop
 loop-holds c = search needs
 
 returns : tie.Need-returns Inv-loop μ-loop
 returns c =
-    eight-differs _ _ _ _ _ _ _ (left (c .before .before .before .before)) _ _ (stored (c .before)) (c .before .eight2 .ensures) (c .if1 .taken)
+    let w = c .before in
+    let z = start w .args in
+    eight-differs (z .across) (now (z .store)) (now (z .tile)) (z .from) (z .i) (z .width) (x w) (left (turn w)) _ _ (stored w) (w .word-at2 .ensures) (c .if1 .taken)
 
 loop-less : tie.Need-loop-less Inv-loop μ-loop
 loop-less c = search needs
 
 loop-again : tie.Need-loop-again Inv-loop μ-loop
 loop-again c =
-    let turn = c .before .before .before .before in
-    (search needs, search needs, eight-agrees _ _ _ _ _ _ _ (left turn) _ _ (stored (c .before)) (c .before .eight2 .ensures) (c .if1 .left) (turn .before .loop .inv .2))
+    let w = c .before in
+    let z = start w .args in
+    let known = turn w .before .before in (
+      search needs,
+      search needs,
+      eight-agrees (z .across) (now (z .store)) (now (z .tile)) (z .from) (z .i) (z .width) (x w) (left (turn w)) _ _ (stored w) (w .word-at2 .ensures)
+          (λ k. known .before .shared-slice-known .given k .fits) (λ k. known .shared-slice-known2 .given k .fits) (c .if1 .left) (turn w .before .loop .inv .2),
+    )
 
 returns-2 : tie.Need-returns-2 Inv-loop μ-loop
 returns-2 c = λ k p. c .before .loop .inv .2 k (omega arith)

@@ -11,7 +11,7 @@ use Rattle.words.specs.Loops.{each}
 use Rattle.words.proofs.Filling.{Filled, filled-none}
 use Rattle.tile.specs.Layout.{element}
 use Rattle.tile.specs.Packings.{sprite}
-use Rattle.tile.specs.Inner.{bytesIn}
+use Rattle.words.specs.Eights.{bytesIn}
 use Rattle.tile.proofs.Filling.{run, words-next, words-stored}
 use Rattle.tile.proofs.Columns.{half-pixel}
 use Rattle.tile.proofs.Packings.{sized-of, rowAt, planes-inside}

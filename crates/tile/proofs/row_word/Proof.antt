@@ -3,8 +3,9 @@ use mathlib.Core.Path.{_≡_, refl, sym, ap, _∙_, subst}
 use Prim.Native.Nat.{ℕ, _+_, _-_, _*_, _/_, _%_, _^_, _≤_, _<_}
 use native.Mathlib.Omega.{arith}
 use borrow.Author.Needs.{needs}
-use Rattle.tile.specs.Inner.{wide, rowByte}
-use Rattle.tile.proofs.Wide.{wide-below, word-more, word-all, wide-full}
+use Rattle.words.specs.Eights.{wide}
+use Rattle.tile.specs.Inner.{rowByte}
+use Rattle.words.proofs.Eights.{wide-below, word-more, word-all, wide-full}
 use Rattle.tile.proofs.row_word.Statement.{statement}
 use Rattle.tile.proofs.row_word.Tie as tie
 
@@ -30,7 +31,7 @@ add-w c =
     let l = c .before .before .before .loop in
     let s = c .before .before .before .before in
     let a = s .before .args in
-    omega (arith, c .widen .ensures, s .shared-slice-known .given (a .k + (7 - l .n) % 4 * 32 + (7 - l .n) / 4), wide-below (l .n) (8 - l .n) (rowByte (a .bytes .now) (a .k)) (λ q. s .shared-slice-known .given (a .k + q % 4 * 32 + q / 4) .fits) (omega arith))
+    omega (arith, c .widen .ensures .0, s .shared-slice-known .given (a .k + (7 - l .n) % 4 * 32 + (7 - l .n) / 4), wide-below (l .n) (8 - l .n) (rowByte (a .bytes .now) (a .k)) (λ q. s .shared-slice-known .given (a .k + q % 4 * 32 + q / 4) .fits) (omega arith))
 
 loop-less : tie.Need-loop-less Inv-loop μ-loop
 loop-less c = search needs
@@ -39,7 +40,7 @@ loop-again : tie.Need-loop-again Inv-loop μ-loop
 loop-again c =
     let l = c .before .before .before .loop in
     let a = c .before .before .before .before .before .args in
-    (omega arith, word-more 8 (l .n) (l .w) (c .widen .result) (rowByte (a .bytes .now) (a .k)) (omega arith) (l .inv .1) (c .widen .ensures ∙ ap (rowByte (a .bytes .now) (a .k)) (omega arith)))
+    (omega arith, word-more 8 (l .n) (l .w) (c .widen .result) (rowByte (a .bytes .now) (a .k)) (omega arith) (l .inv .1) (c .widen .ensures .0 ∙ ap (rowByte (a .bytes .now) (a .k)) (omega arith)))
 
 returns : tie.Need-returns Inv-loop μ-loop
 returns c =

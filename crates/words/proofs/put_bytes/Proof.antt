@@ -3,10 +3,10 @@ use mathlib.Core.List.{[], _∷_}
 use Prim.Native.Nat.{_-_, _≤_}
 use native.Mathlib.Omega.{arith}
 use borrow.Author.Needs.{needs}
 use Rattle.words.proofs.Filling.{Filled, filled-none, filled-one, filled-all}
-use Rattle.tile.specs.Inner.{byteIn}
-use Rattle.tile.proofs.put_bytes.Statement.{statement}
-use Rattle.tile.proofs.put_bytes.Tie as tie
+use Rattle.words.specs.Eights.{byteIn}
+use Rattle.words.proofs.put_bytes.Statement.{statement}
+use Rattle.words.proofs.put_bytes.Tie as tie
 
 abbrev Inv-loop : tie.InvT-loop
 Inv-loop out₀ at w m₀ out m = (m ≤ 8) × Filled (λ k. byteIn w k ∷ []) out₀ at m out
