@@ -1,6 +1,6 @@
 -- Reading: how many tiles come before the first incomplete one, its checks, and where each pixel of a tile stands.
 -- Assumes nothing.
-use mathlib.Core.Path.{_≡_, refl, sym, ap, _∙_, subst}
+use mathlib.Core.Path.{_≡_, refl, sym, ap, ap₂, _∙_, subst}
 use mathlib.Core.Bool.{Bool, true, false, not, cond}
 use mathlib.Core.List.{List, [], _∷_, _++_}
 use mathlib.Core.Logic.{⊎-elim}
@@ -11,9 +11,10 @@ use lib.Dec.{ltb, eqb}
 use lib.ListN.{length, getD, drop, take, length-append, length-drop, List·getD-append}
 use borrow.Author.Tests.{eq-eqb, ne-eqb, lt-ltb, le-ltb, ltb-true, ltb-false}
 use Rattle.words.specs.Answers.{_when_, firstApplying, overwrite}
+use Rattle.words.specs.Eights.{eight}
 use Rattle.words.specs.Loops.{each}
 use Rattle.words.proofs.Answers.{all-passed, not-given, when-done, when-refused}
-use Rattle.words.proofs.Items.{item-getD, item-inside, item-end, each-eq}
+use Rattle.words.proofs.Items.{item-getD, item-inside, item-end, each-eq, each-each}
 use Rattle.words.proofs.Loops.{length-each}
 use Rattle.words.proofs.Order.{checks-after, checks-first, checks-given, checks-rest}
 use Rattle.mode.specs.Table.{hasDepth, pce-sprite}
@@ -298,21 +299,33 @@ module _ (r h v : ℕ) (g : Grid r h v) (n k : ℕ) (lt : k < h * v) where
 -- ---- the rows of a tile, out of its cells' pixels
 
 module _ (w y len : ℕ) (across : w ≡ w / 8 * 8) (fits : (y / 8 * 8 + 8) * w ≤ len) where
-  pub place-inside : (x : ℕ) → x < w → placeIn w y x < len
-  place-inside x lt =
+  -- eight pixels of cell t of the row
+  pub eight-inside : (t : ℕ) → t < w / 8 → (y / 8 * (w / 8) + t) * 64 + y % 8 * 8 + 8 ≤ len
+  eight-inside t lt =
       let a = y / 8 * (w / 8) in
       let row : (y / 8 * 8 + 8) * w ≡ (a + w / 8) * 64 =
       omega (arith, add-mul (y / 8 * 8) 8 w, mul-assoc (y / 8) 8 w, ap (λ (k : ℕ). y / 8 * k) across, mul-assoc (y / 8) (w / 8) 8) in
-      omega (arith, mul-le-mul-right 64 (cells x lt))
-    where
-      cells : (x : ℕ) → x < w → y / 8 * (w / 8) + x / 8 + 1 ≤ y / 8 * (w / 8) + w / 8
-      cells x lt = omega (arith, across)
+      let cells : (a + t + 1) * 64 ≤ (a + w / 8) * 64 = mul-le-mul-right 64 (omega arith) in
+      omega arith
 
 -- the cells that row y of a tile lies in
 pub rows-inside : (w h y len : ℕ) → h ≡ h / 8 * 8 → w * h ≤ len → y < h → (y / 8 * 8 + 8) * w ≤ len
 rows-inside w h y len down fits lt =
     let rows : (y / 8 * 8 + 8) * w ≤ h * w = mul-le-mul-right w (omega (arith, down)) in
     omega (arith, mul-comm w h)
+
+-- a row is the eights of its cells
+pub row-eights : (w : ℕ) (cells : List ℕ) (y : ℕ) → w ≡ w / 8 * 8 → each (w / 8) (λ t. eight false cells ((y / 8 * (w / 8) + t) * 64 + y % 8 * 8)) ≡ rowOf w cells y
+row-eights w cells y across =
+    let pixel : ℕ → List ℕ = λ x. getD cells (placeIn w y x) 0 ∷ [] in
+    each-eq (w / 8) (λ t. eight false cells ((y / 8 * (w / 8) + t) * 64 + y % 8 * 8)) (λ t. each 8 (λ x. pixel (t * 8 + x)))
+    (λ t ht. each-eq 8 (λ x. getD cells ((y / 8 * (w / 8) + t) * 64 + y % 8 * 8 + x) 0 ∷ []) (λ x. pixel (t * 8 + x))
+    (λ x hx.
+    let cell : t ≡ (t * 8 + x) / 8 = omega arith in
+    let column : x ≡ (t * 8 + x) % 8 = omega arith in
+    ap₂ (λ (c k : ℕ). getD cells ((y / 8 * (w / 8) + c) * 64 + y % 8 * 8 + k) 0 ∷ []) cell column))
+    ∙ each-each (w / 8) 8 pixel
+    ∙ ap (λ (n : ℕ). each n pixel) (sym across)
 
 pub row-length : (w : ℕ) (cells : List ℕ) (y : ℕ) → length (rowOf w cells y) ≡ w
 row-length w cells y = length-each w 1 (λ x. getD cells (placeIn w y x) 0 ∷ []) (λ x. refl) ∙ mul-one w

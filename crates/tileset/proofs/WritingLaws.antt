@@ -1,32 +1,36 @@
 -- The cells and bytes of a set: how many they are, where they stand in the store, and the checks of writing.
 -- Assumes nothing.
-use mathlib.Core.Path.{_≡_, refl, sym, ap, _∙_, subst}
-use mathlib.Core.Bool.{Bool, true, false, and-false}
+use mathlib.Core.Path.{_≡_, refl, sym, ap, ap₂, _∙_, subst}
+use mathlib.Core.Bool.{Bool, true, false, _&&_, and-false}
 use mathlib.Core.List.{List, [], _∷_}
 use Prim.Native.Nat.{ℕ, _+_, _-_, _*_, _/_, _%_, _<_, _≤_}
-use native.Mathlib.Nat.{mod-lt, div-le-self, mul-le-mul, mul-le-mul-right, add-mul, suc-mul, mul-comm, le-refl, le-trans, mul-pos, le-div-iff-mul-le}
+use native.Mathlib.Nat.{mod-lt, div-le-self, mul-le-mul, mul-le-mul-right, add-mul, suc-mul, mul-comm, le-refl, le-trans, mul-pos, le-div-iff-mul-le, mod-one}
 use native.Mathlib.Omega.{arith}
-use lib.Dec.{T, ltb, eqb}
+use lib.Dec.{T, ltb, eqb, eqb→eq}
 use lib.ListN.{length, getD, drop, take, replicate}
 use lib.Seq.{take-all}
 use borrow.Author.Tests.{eq-eqb, ne-eqb, eqb-true, eqb-false, lt-ltb, le-ltb, ltb-false}
 use Rattle.words.specs.Answers.{_when_, firstApplying}
+use Rattle.words.specs.Eights.{eight}
 use Rattle.words.specs.Loops.{each, some}
 use Rattle.words.proofs.Answers.{all-passed, not-given}
-use Rattle.words.proofs.Items.{item-inside}
-use Rattle.words.proofs.Loops.{length-each}
+use Rattle.words.proofs.Filling.{each-part}
+use Rattle.words.proofs.Items.{each-eq, each-each, item-inside}
+use Rattle.words.proofs.Loops.{length-each, both-left, both-right}
 use Rattle.words.proofs.Order.{checks-after, checks-first, checks-given, checks-rest}
-use Rattle.mode.specs.Table.{pce-sprite}
+use Rattle.mode.specs.Table.{oneOf, pce-sprite}
 use Rattle.tile.specs.Inner.{Packs, pixelCount, packedIn}
 use Rattle.tile.specs.Tile.{isNative, packingOf, layoutOf, packed, tooLarge}
 use Rattle.tile.specs.declared.Packing.{Packing}
 use Rattle.tile.proofs.Native.{Native, fitting}
+use Rattle.tile.proofs.Packings.{each-at}
 use Rattle.tile.proofs.RoundTrip.{length-spread}
 use Rattle.tileset.specs.Sets.{area, isSize, heldChecks, heldSays}
 use Rattle.tileset.specs.Numbers.{rowCells, Grid}
 use Rattle.tileset.specs.Writing.{paddedCells, cellCount, cornerOf, block, tileAt, cornerAt, cellPixels, spriteBytes, cellBytes, cellsOf, setBytes, writeSize, writeSays}
 use Rattle.tileset.specs.declared.Set.{Set}
 use Rattle.tileset.proofs.Sizes.{IsSet, grid-set}
+use Rattle.tileset.proofs.NumberLaws.{tile-8}
 use Rattle.tileset.proofs.Says.{held-set, held-room, room-most, room-whole}
 
 -- ---- whole rows of cells
@@ -60,7 +64,7 @@ module _ (m w h n : ℕ) where
   unfolding cellCount
   single-cells e f = rw (eq-eqb w 8 e, eq-eqb h 8 f)
 
--- ---- a cell's corner
+-- ---- a cell's corner, and its block of eight by eight pixels
 
 -- tile t of n pixels, and cell (y, x) of a tile w wide and h high
 module _ (w h y x : ℕ) (ew : w ≡ w / 8 * 8) (eh : h ≡ h / 8 * 8) (hy : y < h / 8) (hx : x < w / 8) where
@@ -77,6 +81,24 @@ pub block-at : (w corner len i : ℕ) → corner + 7 * w + 8 ≤ len → i < 64 
 block-at w corner len i fits lt =
     let rows : i / 8 * w ≤ 7 * w = mul-le-mul-right w (omega arith) in
     omega arith
+
+pub block-rows : (store : List ℕ) (corner w : ℕ) → each 8 (λ y. eight false store (corner + y * w)) ≡ block store corner w
+block-rows store corner w =
+    let pixel : ℕ → List ℕ = λ i. getD store (corner + i / 8 * w + i % 8) 0 ∷ [] in
+    each-eq 8 (λ y. eight false store (corner + y * w)) (λ y. each 8 (λ x. pixel (y * 8 + x)))
+    (λ y hy. each-eq 8 (λ x. getD store (corner + y * w + x) 0 ∷ []) (λ x. pixel (y * 8 + x))
+    (λ x hx.
+    let row : y ≡ (y * 8 + x) / 8 = omega arith in
+    let column : x ≡ (y * 8 + x) % 8 = omega arith in
+    ap₂ (λ (r c : ℕ). getD store (corner + r * w + c) 0 ∷ []) row column))
+    ∙ each-each 8 8 pixel
+
+-- of a store with rows of eight: the pixels stand together
+pub block-together : (store : List ℕ) (corner : ℕ) → corner + 64 ≤ length store → block store corner 8 ≡ take 64 (drop corner store)
+block-together store corner inside =
+    each-eq 64 (λ i. getD store (corner + i / 8 * 8 + i % 8) 0 ∷ []) (λ i. getD store (corner + i) 0 ∷ [])
+    (λ i lt. ap (λ (k : ℕ). getD store k 0 ∷ []) (omega arith))
+    ∙ each-part store corner 64 inside
 
 pub block-length : (store : List ℕ) (corner w : ℕ) → length (block store corner w) ≡ 64
 block-length store corner w = length-each 64 1 (λ i. getD store (corner + i / 8 * w + i % 8) 0 ∷ []) (λ i. refl)
@@ -231,6 +253,64 @@ module _ (z : Set) (store : List ℕ) (held : heldSays z (length store) ≡ 0) w
   unfolding writeSize
   cells-space other = rw (ne-eqb (z .mode) pce-sprite other)
 
-  pub sprites-space : z .mode ≡ pce-sprite → writeSize z ≡ z .stored * (area z * z .depth / 8)
-  unfolding writeSize
-  sprites-space is = rw (eq-eqb (z .mode) pce-sprite is)
+  -- a set whose size is not native is no set of sprites
+  pub no-sprite : isNative (z .mode) (z .width) (z .height) ≡ false → z .mode ≡ pce-sprite → ⊥
+  no-sprite e is = subst T e (native-sprite (held-set z (length store) held) is .size)
+
+  -- ---- tiles of a native size, sprites or 8x8: their bytes stand one after the other
+  module _ (native : T (isNative (z .mode) (z .width) (z .height))) where
+    pub native-tile : Native (z .mode) (z .depth) (z .width) (z .height)
+    native-tile = let s = held-set z (length store) held in record { mode = s .mode; depth = s .depth; size = native }
+
+    pub tile-length : (i : ℕ) → length (spriteBytes z store i) ≡ area z * z .depth / 8
+    tile-length i = packed-length native-tile (take (area z) (drop (i * area z) store))
+
+    -- at 8x8 a cell is a tile
+    module _ (other : z .mode ≡ pce-sprite → ⊥) where
+      single : (z .width ≡ 8) × (z .height ≡ 8)
+      single =
+          let w = oneOf (z .width) (8 ∷ []) in
+          let h = oneOf (z .height) (8 ∷ []) in
+          let both : T (w && h) = rw (ne-eqb (z .mode) pce-sprite other) at native in
+          (eqb→eq (z .width) 8 (each-at (8 ∷ []) (λ k. eqb k 8) tt (z .width) (both-left w h both)),
+          eqb→eq (z .height) 8 (each-at (8 ∷ []) (λ k. eqb k 8) tt (z .height) (both-right w h both)))
+
+      tile-is : (i : ℕ) → tileAt z i ≡ i
+      tile-is i = rw (single .0, single .1) (tile-8 (z .mode) i)
+
+      corner-is : (i : ℕ) → cornerAt z i ≡ i * area z
+      unfolding cornerOf
+      corner-is i = rw (single .0, single .1) (rw (tile-8 (z .mode) i, mod-one (i / rowCells (z .mode)), mod-one (i % rowCells (z .mode))) (omega arith))
+
+      area-is : area z ≡ 64
+      area-is = rw (single .0, single .1)
+
+      pixels-are : (i : ℕ) → i < z .stored → cellPixels z store i ≡ take (area z) (drop (i * area z) store)
+      pixels-are i lt =
+          let inside : i * area z + area z ≤ length store = omega (arith, item-inside (area z) (z .stored) i lt, held-inside z (length store) held) in
+          let whole : i * area z + 64 ≤ length store = omega (arith, area-is) in
+          sym (cell-there z store i (rw (tile-is i) lt))
+          ∙ ap₂ (λ (k w : ℕ). block store k w) (corner-is i) (single .0)
+          ∙ block-together store (i * area z) whole
+          ∙ ap (λ (k : ℕ). take k (drop (i * area z) store)) (sym area-is)
+
+      bytes-are : (i : ℕ) → i < z .stored → spriteBytes z store i ≡ cellBytes z store i
+      bytes-are i lt =
+          ap₂ (λ (w h : ℕ). packed (z .mode) (z .depth) w h (take (area z) (drop (i * area z) store))) (single .0) (single .1)
+          ∙ ap (packed (z .mode) (z .depth) 8 8) (sym (pixels-are i lt))
+
+      cells-are : each (z .stored) (spriteBytes z store) ≡ setBytes z store
+      cells-are =
+          each-eq (z .stored) (spriteBytes z store) (cellBytes z store) bytes-are
+          ∙ ap (λ (n : ℕ). each n (cellBytes z store)) (single-cells (z .mode) (z .width) (z .height) (z .stored) (single .0) (single .1))
+          ∙ cell-set other .0
+
+    tiles-case : (b : Bool) → eqb (z .mode) pce-sprite ≡ b → each (z .stored) (spriteBytes z store) ≡ setBytes z store
+    tiles-case true e = sprite-set (eqb-true (z .mode) pce-sprite e) .0
+    tiles-case false e = cells-are (eqb-false (z .mode) pce-sprite e)
+
+    pub tiles-set : each (z .stored) (spriteBytes z store) ≡ setBytes z store
+    tiles-set = tiles-case (eqb (z .mode) pce-sprite) refl
+
+    pub tiles-space : z .stored * (area z * z .depth / 8) ≡ writeSize z
+    tiles-space = sym (length-each (z .stored) (area z * z .depth / 8) (spriteBytes z store) tile-length) ∙ ap length tiles-set ∙ written-size

@@ -104,7 +104,7 @@ fn unpack_cells(
     }
 }
 
-// Row y of a tile, out of its cells' pixels.
+// Row y of a tile, out of its cells' pixels, eight at a time.
 fn put_row(cells: &[u8], width: usize, y: usize, out: &mut [u8], at: usize)
     requires { ⌜ ReadsRow width y (now cells) (now out) at ⌝ }
     ensures { λ _. ⌜ now (out .exit) ≡ sets (now (out .entry)) at (rowOf width (now (cells .entry)) y) ⌝ }
@@ -112,8 +112,8 @@ fn put_row(cells: &[u8], width: usize, y: usize, out: &mut [u8], at: usize)
     let above = y / 8 * (width / 8);
     let down = y % 8 * 8;
     let mut x = 0;
-    while x < width {
-        out[at + x] = cells[(above + x / 8) * 64 + down + x % 8];
+    while x < width / 8 {
+        words::put_eight(cells, (above + x) * 64 + down, false, out, at + x * 8);
         x += 1;
     }
 }

@@ -10,14 +10,15 @@ use words::Written;
 use words::refusal;
 ghost use mathlib.Core.Path.{_≡_};
 ghost use Prim.Native.Nat.{_/_, _≤_};
+ghost use lib.Dec.{T};
 ghost use lib.ListN.{length};
 ghost use lib.Seq.{sets};
 ghost use Rattle.words.specs.Answers.{overwrite, Wrote};
-ghost use Rattle.words.specs.Loops.{each};
 ghost use Rattle.mode.specs.Table.{pce-sprite};
+ghost use Rattle.tile.specs.Tile.{isNative};
 ghost use Rattle.tileset.specs.Sets.{setSays};
 ghost use Rattle.tileset.specs.Numbers.{rowCells, Grid};
-ghost use Rattle.tileset.specs.Writing.{paddedCells, cellCount, cornerOf, block, cellBytes, cellsOf, spriteBytes, setBytes, writeSize, writeSays};
+ghost use Rattle.tileset.specs.Writing.{paddedCells, cellCount, cornerOf, block, cellBytes, setBytes, writeSize, writeSays};
 ghost use Rattle.tileset.specs.Inner.{Writes, PutsCell, HasCorner, HasBlock};
 
 // Whole rows of cells for so many tiles.
@@ -62,10 +63,10 @@ fn take_block(store: &[u8], corner: usize, width: usize, out: &mut [u8])
     requires { ⌜ HasBlock (now store) corner width (now out) ⌝ }
     ensures { λ _. ⌜ now (out .exit) ≡ block (now (store .entry)) corner width ⌝ }
 {
-    let mut i = 0;
-    while i < 64 {
-        out[i] = store[corner + i / 8 * width + i % 8];
-        i += 1;
+    let mut y = 0;
+    while y < 8 {
+        words::put_eight(store, corner + y * width, false, out, y * 8);
+        y += 1;
     }
 }
 
@@ -88,7 +89,7 @@ fn put_cell(set: Set, store: &[u8], c: Native, out: &mut [u8], at: usize)
 // The cells of a set, one after the other.
 fn put_cells(set: Set, store: &[u8], out: &mut [u8])
     requires { ⌜ Writes set (now store) (now out) × (set .mode ≡ pce-sprite → ⊥) ⌝ }
-    ensures { λ _. ⌜ now (out .exit) ≡ overwrite (now (out .entry)) (each (cellsOf set) (cellBytes set (now (store .entry)))) ⌝ }
+    ensures { λ _. ⌜ now (out .exit) ≡ overwrite (now (out .entry)) (setBytes set (now (store .entry))) ⌝ }
 {
     let count = cell_count(set.mode, set.width, set.height, set.stored);
     let size = (set.depth * 8) as usize;
@@ -99,10 +100,10 @@ fn put_cells(set: Set, store: &[u8], out: &mut [u8])
     }
 }
 
-// Sprites, tile by tile.
-fn put_sprites(set: Set, store: &[u8], out: &mut [u8])
-    requires { ⌜ Writes set (now store) (now out) × (set .mode ≡ pce-sprite) ⌝ }
-    ensures { λ _. ⌜ now (out .exit) ≡ overwrite (now (out .entry)) (each (set .stored) (spriteBytes set (now (store .entry)))) ⌝ }
+// Tiles of a native size, one after the other, straight from the store.
+fn put_tiles(set: Set, store: &[u8], out: &mut [u8])
+    requires { ⌜ Writes set (now store) (now out) × T (isNative (set .mode) (set .width) (set .height)) ⌝ }
+    ensures { λ _. ⌜ now (out .exit) ≡ overwrite (now (out .entry)) (setBytes set (now (store .entry))) ⌝ }
 {
     let p = tile::packing_of(Mode(set.mode), set.depth, set.width, set.height);
     let n = (set.width * set.height) as usize;
@@ -113,6 +114,18 @@ fn put_sprites(set: Set, store: &[u8], out: &mut [u8])
         tile::put_tile(p, store, k * n, out, k * size);
         i += 1;
     }
+}
+
+// The bytes of a set, at the front of out.
+fn put_set(set: Set, store: &[u8], out: &mut [u8])
+    requires { ⌜ Writes set (now store) (now out) ⌝ }
+    ensures { λ _. ⌜ now (out .exit) ≡ overwrite (now (out .entry)) (setBytes set (now (store .entry))) ⌝ }
+{
+    if tile::is_native(Mode(set.mode), set.width, set.height) {
+        put_tiles(set, store, out);
+        return;
+    }
+    put_cells(set, store, out);
 }
 
 // How many bytes a set has.
@@ -153,17 +166,9 @@ pub fn write(set: Set, store: &[u8], out: &mut [u8]) -> Written
     if refusal != 0 {
         return words::refused(refusal);
     }
-    let size = write_size(set);
-    if set.mode == Mode::PCE_SPRITE.0 {
-        put_sprites(set, store, out);
-        return Written {
-            refusal: 0,
-            written: size,
-        };
-    }
-    put_cells(set, store, out);
+    put_set(set, store, out);
     Written {
         refusal: 0,
-        written: size,
+        written: write_size(set),
     }
 }

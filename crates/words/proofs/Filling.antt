@@ -6,11 +6,11 @@ use Prim.Native.Nat.{ℕ, suc, _+_, _*_, _≤_}
 use native.Mathlib.Nat.{zero-add, add-zero, add-suc, suc-add, mul-one}
 use native.Mathlib.Numerals.{add-one}
 use native.Mathlib.Omega.{arith}
-use lib.ListN.{length, getD, set, drop-of-length-le}
-use lib.Seq.{sets, length-sets, ext-getD}
+use lib.ListN.{length, getD, set, take, drop, length-drop, drop-of-length-le}
+use lib.Seq.{sets, length-sets, ext-getD, length-take-le, getD-take, getD-drop}
 use Rattle.words.specs.Answers.{overwrite}
 use Rattle.words.specs.Loops.{each}
-use Rattle.words.proofs.Items.{length-ones, number-at}
+use Rattle.words.proofs.Items.{each-eq, length-ones, number-at}
 use Rattle.words.proofs.Loops.{length-each, sets-front}
 
 pub sets-append : (xs ys l : List ℕ) (i : ℕ) → sets l i (xs ++ ys) ≡ sets (sets l i xs) (i + length xs) ys
@@ -71,3 +71,12 @@ pub each-of : (l : List ℕ) → each (length l) (λ k. getD l k 0 ∷ []) ≡ l
 each-of l =
     let long : length (each (length l) (λ k. getD l k 0 ∷ [])) ≡ length l = length-ones (length l) (λ k. getD l k 0) in
     ext-getD 0 (each (length l) (λ k. getD l k 0 ∷ [])) l long (λ i lt. number-at (length l) (λ k. getD l k 0) i (omega (arith, long)))
+
+pub each-part : (l : List ℕ) (at n : ℕ) → at + n ≤ length l → each n (λ k. getD l (at + k) 0 ∷ []) ≡ take n (drop at l)
+each-part l at n inside =
+    let part = take n (drop at l) in
+    let long : length part ≡ n = length-take-le n (drop at l) (omega (arith, length-drop at l)) in
+    each-eq n (λ k. getD l (at + k) 0 ∷ []) (λ k. getD part k 0 ∷ [])
+    (λ k lt. ap (λ (v : ℕ). v ∷ []) (sym (getD-take n (drop at l) k 0 lt ∙ getD-drop at l k 0)))
+    ∙ ap (λ (i : ℕ). each i (λ k. getD part k 0 ∷ [])) (sym long)
+    ∙ each-of part

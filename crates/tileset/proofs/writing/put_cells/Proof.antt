@@ -1,17 +1,18 @@
 -- The cells before c are put.
-use mathlib.Core.Path.{_≡_, refl}
+use mathlib.Core.Path.{_≡_, refl, ap, _∙_}
 use mathlib.Core.List.{List}
 use Prim.Native.Nat.{ℕ, _*_, _≤_, _-_, _+_}
 use native.Mathlib.Omega.{arith}
 use lib.ListN.{length}
 use denote.Ref.{now}
 use borrow.Author.Needs.{needs}
+use Rattle.words.specs.Answers.{overwrite}
 use Rattle.words.proofs.Filling.{Filled, filled-none, filled-front, filled-next}
 use Rattle.tileset.specs.Writing.{cellBytes, cellsOf}
 use Rattle.tileset.specs.declared.Set.{Set}
 use Rattle.tileset.proofs.Sizes.{IsSet, grid-set}
 use Rattle.tileset.proofs.Says.{held-set}
-use Rattle.tileset.proofs.WritingLaws.{held-few, cell-length, cells-space, item-space}
+use Rattle.tileset.proofs.WritingLaws.{held-few, cell-length, cell-set, cells-space, item-space}
 use Rattle.tileset.proofs.writing.put_cells.Statement.{statement}
 use Rattle.tileset.proofs.writing.put_cells.Tie as tie
 
@@ -87,6 +88,7 @@ returns c =
     let s = c .before .before .before .before .before .before in
     let i = c .before .loop .inv in
     filled-front (z s .depth * 8) (cellsOf (z s)) (size-is s) (i .1 .1 .1) (omega (arith, i .1 .0)) (space s)
+    ∙ ap (overwrite (out s)) (cell-set (z s) (store s) (s .pre .0 .held) (s .pre .1) .0)
 
 pub put-cells-spec : {M : Type 1} → statement M
 put-cells-spec =

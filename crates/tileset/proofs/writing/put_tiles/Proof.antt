@@ -1,4 +1,4 @@
--- The sprites before i are put.
+-- The tiles before i are put.
 use mathlib.Core.Path.{_≡_, ap, _∙_}
 use mathlib.Core.List.{List}
 use Prim.Native.Nat.{ℕ, _*_, _/_, _≤_, _-_, _+_}
@@ -7,6 +7,7 @@ use lib.Seq.{sets}
 use lib.ListN.{length}
 use denote.Ref.{now}
 use borrow.Author.Needs.{needs}
+use Rattle.words.specs.Answers.{overwrite}
 use Rattle.words.proofs.Filling.{Filled, filled-none, filled-front, filled-next}
 use Rattle.tile.specs.Inner.{byteCount}
 use Rattle.tile.proofs.Native.{Native, fitting}
@@ -15,9 +16,9 @@ use Rattle.tileset.specs.Writing.{spriteBytes}
 use Rattle.tileset.specs.declared.Set.{Set}
 use Rattle.tileset.proofs.Sizes.{IsSet}
 use Rattle.tileset.proofs.Says.{held-set}
-use Rattle.tileset.proofs.WritingLaws.{native-sprite, packs-at, packs-bytes, held-inside, sprite-length, sprites-space, item-space}
-use Rattle.tileset.proofs.writing.put_sprites.Statement.{statement}
-use Rattle.tileset.proofs.writing.put_sprites.Tie as tie
+use Rattle.tileset.proofs.WritingLaws.{packs-at, packs-bytes, held-inside, native-tile, tile-length, tiles-set, tiles-space, item-space}
+use Rattle.tileset.proofs.writing.put_tiles.Statement.{statement}
+use Rattle.tileset.proofs.writing.put_tiles.Tie as tie
 
 abbrev Inv-loop : tie.InvT-loop
 Inv-loop set store out₀ p n size i₀ out i = (i ≤ set .stored) × Filled (spriteBytes set store) out₀ 0 i out
@@ -41,21 +42,21 @@ module _ (c : tie.Start Inv-loop μ-loop) where
   sound : IsSet (z .mode) (z .depth) (z .width) (z .height)
   sound = held-set z _ (c .pre .0 .held)
 
-  sprite : Native (z .mode) (z .depth) (z .width) (z .height)
-  sprite = native-sprite sound (c .pre .1)
+  tiled : Native (z .mode) (z .depth) (z .width) (z .height)
+  tiled = native-tile z store (c .pre .0 .held) (c .pre .1)
 
   size-is : (k : ℕ) → length (spriteBytes z store k) ≡ size
-  size-is = sprite-length z _ (c .pre .0 .held) (c .pre .1) store
+  size-is = tile-length z store (c .pre .0 .held) (c .pre .1)
 
   space : z .stored * size ≤ length out
-  space = omega (arith, sprites-space z store (c .pre .0 .held) (c .pre .1), c .pre .0 .space)
+  space = omega (arith, tiles-space z store (c .pre .0 .held) (c .pre .1), c .pre .0 .space)
 
 module _ (c : tie.After-byte-count Inv-loop μ-loop) where
   abbrev s : tie.Start Inv-loop μ-loop
   s = c .before .before .before .before .before
 
   bytes-are : c .byte-count .result ≡ size s
-  bytes-are = c .byte-count .ensures ∙ ap byteCount (c .before .before .packing-of .ensures) ∙ fitting (sprite s) .bytes
+  bytes-are = c .byte-count .ensures ∙ ap byteCount (c .before .before .packing-of .ensures) ∙ fitting (tiled s) .bytes
 
 module _ (c : tie.Then1 Inv-loop μ-loop) where
   abbrev b : tie.After-byte-count Inv-loop μ-loop
@@ -83,7 +84,7 @@ cast-n : tie.Need-cast-n Inv-loop μ-loop
 cast-n c = omega (arith, sound (c .before .before .before .before) .small)
 
 byte-count-requires : tie.Need-byte-count-requires Inv-loop μ-loop
-byte-count-requires c κs = rw (c .before .packing-of .ensures) (fitting (sprite (c .before .before .before .before)) .sound)
+byte-count-requires c κs = rw (c .before .packing-of .ensures) (fitting (tiled (c .before .before .before .before)) .sound)
 
 loop-holds : tie.Need-loop-holds Inv-loop μ-loop
 loop-holds c = (search needs, filled-none _ _ _)
@@ -97,7 +98,7 @@ mul-put-tile-2 c = omega (arith, here (c .before), bytes-at (c .before))
 put-tile-requires : tie.Need-put-tile-requires Inv-loop μ-loop
 put-tile-requires c κs =
     let t = c .before in
-    packs-at (b t .before .before .packing-of .ensures) (sprite (s (b t))) _ _ _ _ (from t)
+    packs-at (b t .before .before .packing-of .ensures) (tiled (s (b t))) _ _ _ _ (from t)
     (omega (arith, here t, bytes-at t, t .before .before .loop .inv .1 .long))
 
 loop-less : tie.Need-loop-less Inv-loop μ-loop
@@ -108,7 +109,7 @@ loop-again c =
     let t = c .before .before .before .before in
     let lp = t .before .before .loop in
     let s0 = s (b t) in
-    let bytes = packs-bytes (b t .before .before .packing-of .ensures) (sprite s0) (store s0) (lp .i * area (z s0)) in (
+    let bytes = packs-bytes (b t .before .before .packing-of .ensures) (tiled s0) (store s0) (lp .i * area (z s0)) in (
       search needs,
       filled-next (size s0) (size-is s0) (lp .inv .1)
           (c .before .before .put-tile .ensures
@@ -120,9 +121,10 @@ returns : tie.Need-returns Inv-loop μ-loop
 returns c =
     let s0 = s (c .before .before .before) in
     filled-front (size s0) (z s0 .stored) (size-is s0) (c .before .before .loop .inv .1) (omega arith) (space s0)
+    ∙ ap (overwrite (out s0)) (tiles-set (z s0) (store s0) (s0 .pre .0 .held) (s0 .pre .1))
 
-pub put-sprites-spec : {M : Type 1} → statement M
-put-sprites-spec =
+pub put-tiles-spec : {M : Type 1} → statement M
+put-tiles-spec =
     tie.close
     (tie.spec
     Inv-loop
