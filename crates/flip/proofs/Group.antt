@@ -1,16 +1,15 @@
 -- The laws of flips: composing two is xor on each, so each undoes itself, h then v is hv, and the order does not matter.
 -- Assumes nothing.
-use mathlib.Core.Path.{_≡_, refl, sym, ap, _∙_}
+use mathlib.Core.Path.{_≡_, refl, sym, ap, ap₂, _∙_}
 use mathlib.Core.Bool.{Bool, true, false, xor}
 use mathlib.Core.List.{List, [], _∷_}
 use Prim.Native.Nat.{ℕ, _+_, _*_, _/_, _%_, _<_}
-use native.Mathlib.Nat.{mod-lt, div-lt-iff-lt-mul, mul-add-div-right, mul-add-mod-self-right, div-eq-of-lt, mod-eq-of-lt, add-zero, mul-one, mul-comm, div-add-mod', mul-le-mul-right, suc-mul}
+use native.Mathlib.Nat.{mod-lt, div-lt-iff-lt-mul, mul-add-div-right, mul-add-mod-self-right, div-eq-of-lt, mod-eq-of-lt, add-zero, mul-comm, div-add-mod', mul-le-mul-right, suc-mul}
 use native.Mathlib.Omega.{arith}
 use lib.ListN.{length, getD}
 use lib.Seq.{ext-getD}
 use Rattle.words.specs.Loops.{each}
-use Rattle.words.proofs.Loops.{length-each}
-use Rattle.words.proofs.Items.{item-getD}
+use Rattle.words.proofs.Items.{each-eq, each-each, length-ones, number-at}
 use Rattle.flip.specs.Flips.{flip, turned, flipAt, flipped, after}
 use Rattle.flip.specs.declared.Flip.{Flip}
 
@@ -62,18 +61,29 @@ module _ (w h i : ℕ) (p : i < w * h) (z : 0 < w) where
 -- ---- a flipped tile by its pixels
 
 module _ (f : Flip) (w h : ℕ) (tile : List ℕ) where
-  abbrev pixel : ℕ → List ℕ
-  pixel i = getD tile (flipAt f w h i) 0 ∷ []
+  abbrev pixel : ℕ → ℕ
+  pixel i = getD tile (flipAt f w h i) 0
 
   pub length-flipped : length (flipped f w h tile) ≡ w * h
   unfolding flipped
-  length-flipped = length-each (w * h) 1 pixel (λ i. refl) ∙ mul-one (w * h)
+  length-flipped = length-ones (w * h) pixel
 
   pub flipped-at : (i : ℕ) → i < w * h → getD (flipped f w h tile) i 0 ≡ getD tile (flipAt f w h i) 0
   unfolding flipped
-  flipped-at i p =
-      let e : i * 1 + 0 ≡ i = omega arith in
-      ap (λ (k : ℕ). getD (each (w * h) pixel) k 0) (sym e) ∙ item-getD 1 pixel (λ i. refl) (w * h) i p 0 (omega arith)
+  flipped-at = number-at (w * h) pixel
+
+  -- and by its rows: in their order or turned, each as it is or turned
+  abbrev pub flippedRow : ℕ → List ℕ
+  flippedRow y = each w (λ x. getD tile (turned (f .v) h y * w + turned (f .h) w x) 0 ∷ [])
+
+  pub flipped-rows : each h flippedRow ≡ flipped f w h tile
+  unfolding flipped flipAt
+  flipped-rows =
+      each-eq h flippedRow (λ y. each w (λ x. pixel (y * w + x) ∷ []))
+      (λ y p. each-eq w (λ x. getD tile (turned (f .v) h y * w + turned (f .h) w x) 0 ∷ []) (λ x. pixel (y * w + x) ∷ [])
+      (λ x q. ap₂ (λ (r c : ℕ). getD tile (turned (f .v) h r * w + turned (f .h) w c) 0 ∷ []) (sym (place-row w y x q)) (sym (place-column w y x q))))
+      ∙ each-each h w (λ i. pixel i ∷ [])
+      ∙ ap (λ (n : ℕ). each n (λ i. pixel i ∷ [])) (mul-comm h w)
 
 -- a list that has the pixels of a flipped tile is it
 pub is-flipped : (f : Flip) (w h : ℕ) (tile l : List ℕ) → length l ≡ w * h → ((i : ℕ) → i < w * h → getD tile (flipAt f w h i) 0 ≡ getD l i 0) → flipped f w h tile ≡ l

@@ -2,8 +2,8 @@
 -- Assumes nothing.
 use mathlib.Core.Path.{_≡_, refl, sym, ap, _∙_, subst}
 use mathlib.Core.List.{List, [], _∷_, _++_, append-nil}
-use Prim.Native.Nat.{ℕ, _+_, _*_, _/_, _%_, _^_, _<_, _≤_}
-use native.Mathlib.Nat.{mod-eq-of-lt, mul-comm, mul-assoc, mul-le-mul-right}
+use Prim.Native.Nat.{ℕ, _+_, _*_, _/_, _%_, _<_, _≤_}
+use native.Mathlib.Nat.{mul-comm, mul-assoc, mul-le-mul-right}
 use native.Mathlib.Omega.{arith}
 use lib.ListN.{length, getD, take, drop, drop-of-length-le, List·getD-append}
 use lib.Seq.{sets}
@@ -26,11 +26,6 @@ use Rattle.picture.specs.Redrawing.{entryAt, drawnTile, drawn}
 use Rattle.picture.specs.Inner.{stripOf, pixelLine, DrawsStrip, Draws}
 
 -- ---- one tile
-
--- bytes are pixels of depth 8
-pub row-whole : (l : List ℕ) (from : ℕ) → ((i : ℕ) → getD l i 0 < 256) → each 8 (λ x. getD l (from + x) 0 % 2 ^ 8 ∷ []) ≡ each 8 (λ x. getD l (from + x) 0 ∷ [])
-row-whole l from small =
-    each-eq 8 (λ x. getD l (from + x) 0 % 2 ^ 8 ∷ []) (λ x. getD l (from + x) 0 ∷ []) (λ x lt. ap (λ (v : ℕ). v ∷ []) (mod-eq-of-lt (small (from + x))))
 
 module _ {m d : ℕ} {p : Packing} (q : p ≡ packingOf m d 8 8) (n : Native m d 8 8) where
   pub unpacks-at : (bytes out : List ℕ) (from : ℕ) → from + d * 8 ≤ length bytes → length out ≡ 64 → Unpacks p bytes from out 0

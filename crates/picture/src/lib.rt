@@ -156,7 +156,7 @@ fn picture_room(settings: Settings, len: usize) -> usize
 }
 
 // Eight pixels, from place from on, cut to the depth, from place at of out on.
-fn put_eight(depth: u32, pixels: &[u8], from: usize, out: &mut [u8], at: usize)
+fn cut_eight(depth: u32, pixels: &[u8], from: usize, out: &mut [u8], at: usize)
     requires { ⌜ (depth ≤ 8) × (from + 8 ≤ length (now pixels)) × (at + 8 ≤ length (now out)) ⌝ }
     ensures { λ _. ⌜ now (out .exit) ≡ sets (now (out .entry)) at (each 8 (λ x. getD (now (pixels .entry)) (from + x) 0 % 2 ^ depth ∷ [])) ⌝ }
 {
@@ -177,7 +177,7 @@ fn take_tile(depth: u32, pixels: &[u8], columns: usize, i: usize) -> [u8; 64]
     let corner = i / columns * 8 * line + i % columns * 8;
     let mut y = 0;
     while y < 8 {
-        put_eight(depth, pixels, corner + y * line, &mut tile, y * 8);
+        cut_eight(depth, pixels, corner + y * line, &mut tile, y * 8);
         y += 1;
     }
     tile
@@ -505,16 +505,16 @@ fn redraw_says(
     0
 }
 
-// The tile under a flip, from place at of out on.
+// The tile under a flip, from place at of out on: a row is moved as one word, back from its end under h.
 fn put_flipped(tile: &[u8], f: Flip, out: &mut [u8], at: usize)
     requires { ⌜ (length (now tile) ≡ 64) × (at + 64 ≤ length (now out)) ⌝ }
     ensures { λ _. ⌜ now (out .exit) ≡ sets (now (out .entry)) at (flipped f 8 8 (now (tile .entry))) ⌝ }
 {
-    let mut i = 0;
-    while i < 64 {
-        let k = flip::flip_at(f, i);
-        out[at + i] = tile[k];
-        i += 1;
+    let mut y = 0;
+    while y < 8 {
+        let row = flip::turned(f.v, 8, y) * 8;
+        words::put_eight(tile, row, f.h, out, at + y * 8);
+        y += 1;
     }
 }
 
@@ -568,7 +568,7 @@ fn put_line(strip: &[u8], columns: usize, y: usize, out: &mut [u8], at: usize)
 {
     let mut x = 0;
     while x < columns {
-        put_eight(8, strip, x * 64 + y * 8, out, at + x * 8);
+        words::put_eight(strip, x * 64 + y * 8, false, out, at + x * 8);
         x += 1;
     }
 }

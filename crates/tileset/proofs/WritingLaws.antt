@@ -271,9 +271,10 @@ module _ (z : Set) (store : List ℕ) (held : heldSays z (length store) ≡ 0) w
       single =
           let w = oneOf (z .width) (8 ∷ []) in
           let h = oneOf (z .height) (8 ∷ []) in
-          let both : T (w && h) = rw (ne-eqb (z .mode) pce-sprite other) at native in
-          (eqb→eq (z .width) 8 (each-at (8 ∷ []) (λ k. eqb k 8) tt (z .width) (both-left w h both)),
-          eqb→eq (z .height) 8 (each-at (8 ∷ []) (λ k. eqb k 8) tt (z .height) (both-right w h both)))
+          let both : T (w && h) = rw (ne-eqb (z .mode) pce-sprite other) at native in (
+            eqb→eq (z .width) 8 (each-at (8 ∷ []) (λ k. eqb k 8) tt (z .width) (both-left w h both)),
+            eqb→eq (z .height) 8 (each-at (8 ∷ []) (λ k. eqb k 8) tt (z .height) (both-right w h both)),
+          )
 
       tile-is : (i : ℕ) → tileAt z i ≡ i
       tile-is i = rw (single .0, single .1) (tile-8 (z .mode) i)

@@ -1,44 +1,44 @@
--- The pixels before i are put.
-use mathlib.Core.Path.{sym, ap, _∙_}
-use mathlib.Core.List.{[], _∷_}
-use Prim.Native.Nat.{ℕ, _≤_, _-_}
+-- The rows before y are put.
+use mathlib.Core.Path.{refl, ap, _∙_}
+use mathlib.Core.List.{List}
+use Prim.Native.Nat.{ℕ, _≤_, _-_, _+_, _*_}
 use native.Mathlib.Omega.{arith}
-use lib.ListN.{length, getD}
 use lib.Seq.{sets}
 use denote.Ref.{now}
-use Rattle.flip.specs.Flips.{flipped}
-use Rattle.flip.proofs.Group.{length-flipped, flipped-at}
-use Rattle.words.proofs.Filling.{Filled, filled-none, filled-one, filled-all, each-of}
+use Rattle.words.specs.Eights.{eight}
+use Rattle.words.proofs.Filling.{Filled, filled-none, filled-more, filled-all}
+use Rattle.flip.proofs.Group.{flippedRow, flipped-rows}
 use borrow.Author.Needs.{needs}
 use Rattle.picture.proofs.put_flipped.Statement.{statement}
 use Rattle.picture.proofs.put_flipped.Tie as tie
 
 abbrev Inv-loop : tie.InvT-loop
-Inv-loop tile f out₀ at i₀ out i = (i ≤ 64) × Filled (λ i. getD (flipped f 8 8 tile) i 0 ∷ []) out₀ at i out
+Inv-loop tile f out₀ at y₀ out y = (y ≤ 8) × Filled (flippedRow f 8 8 tile) out₀ at y out
 
 abbrev μ-loop : tie.MeasureT-loop
-μ-loop tile f out₀ at i₀ out i = 64 - i
+μ-loop tile f out₀ at y₀ out y = 8 - y
 
 loop-holds : tie.Need-loop-holds Inv-loop μ-loop
 loop-holds c = (omega arith, filled-none _ _ _)
 
-shared-slice-read-out : tie.Need-shared-slice-read-out Inv-loop μ-loop
-shared-slice-read-out c = omega (arith, c .before .flip-at .ensures .1, c .before .before .before .before .before .before .pre .0)
-
-slice-write-out : tie.Need-slice-write-out Inv-loop μ-loop
-slice-write-out c = omega (arith, c .before .before .before .loop .inv .1 .long, c .before .before .before .before .before .before .pre .1, c .before .before .loop-test .taken)
+put-eight-requires : tie.Need-put-eight-requires Inv-loop μ-loop
+put-eight-requires c κs =
+    let l = c .before .before in
+    let p = l .before .before .before .before .pre in
+    (omega (arith, c .before .turned .ensures .1, p .0), omega (arith, p .1, l .before .loop .inv .1 .long, l .loop-test .taken))
 
 loop-less : tie.Need-loop-less Inv-loop μ-loop
 loop-less c = search needs
 
 loop-again : tie.Need-loop-again Inv-loop μ-loop
 loop-again c =
-    let lp = c .before .before .before in
-    let a = lp .before .before .before .args in
-    let at = flipped-at (a .f) 8 8 (now (a .tile)) (lp .loop .i) (c .before .before .loop-test .taken) in (
-      omega arith,
-      filled-one {g = λ i. getD (flipped (a .f) 8 8 (now (a .tile))) i 0} (lp .loop .inv .1)
-          (ap (λ (k : ℕ). getD (now (a .tile)) k 0) (c .before .flip-at .ensures .0) ∙ sym at),
+    let t = c .before .before .before .before in
+    let l = t .before .before .loop in
+    let a = t .before .before .before .before .before .args in (
+      search needs,
+      filled-more 8 (λ y. refl) (l .inv .1)
+          (c .before .before .put-eight .ensures
+          ∙ ap (λ (k : ℕ). sets (l .out) (a .at + l .y * 8) (eight (a .f .h) (now (a .tile)) (k * 8))) (t .turned .ensures .0)),
     )
 
 same-length : tie.Need-same-length Inv-loop μ-loop
@@ -47,8 +47,7 @@ same-length c = c .before .loop .inv .1 .long
 returns : tie.Need-returns Inv-loop μ-loop
 returns c =
     let a = c .before .before .before .before .args in
-    let t = flipped (a .f) 8 8 (now (a .tile)) in
-    filled-all (length t) (c .before .loop .inv .1) (omega (arith, length-flipped (a .f) 8 8 (now (a .tile)))) ∙ ap (sets (now (a .out)) (a .at)) (each-of t)
+    filled-all 8 (c .before .loop .inv .1) (omega arith) ∙ ap (λ (l : List ℕ). sets (now (a .out)) (a .at) l) (flipped-rows (a .f) 8 8 (now (a .tile)))
 
 pub put-flipped-spec : {M : Type 1} → statement M
 put-flipped-spec =
@@ -58,9 +57,10 @@ put-flipped-spec =
     μ-loop
     loop-holds
     (λ c κs. search needs)
-    shared-slice-read-out
     (λ c. search needs)
-    slice-write-out
+    (λ c. search needs)
+    (λ c. search needs)
+    put-eight-requires
     (λ c. search needs)
     loop-less
     loop-again

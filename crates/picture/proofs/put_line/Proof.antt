@@ -1,15 +1,11 @@
 -- Eight pixels of each of the first x tiles are put.
-use mathlib.Core.Path.{ap, _∙_}
-use mathlib.Core.List.{List, [], _∷_}
-use Prim.Native.Nat.{ℕ, _≤_, _-_, _+_, _*_}
+use mathlib.Core.Path.{refl}
+use mathlib.Core.List.{[], _∷_}
+use Prim.Native.Nat.{_≤_, _-_, _+_, _*_}
 use native.Mathlib.Omega.{arith}
 use lib.ListN.{getD}
-use lib.Seq.{sets}
-use denote.Ref.{now}
 use Rattle.words.specs.Loops.{each}
 use Rattle.words.proofs.Filling.{Filled, filled-none, filled-more, filled-all}
-use Rattle.words.proofs.Items.{length-ones}
-use Rattle.picture.proofs.Drawing.{row-whole}
 use borrow.Author.Needs.{needs}
 use Rattle.picture.proofs.put_line.Statement.{statement}
 use Rattle.picture.proofs.put_line.Tie as tie
@@ -41,21 +37,14 @@ add-put-eight-2 c = omega (arith, c .before .before .before .before .before .pre
 put-eight-requires : tie.Need-put-eight-requires Inv-loop μ-loop
 put-eight-requires c κs =
     let p = c .before .before .before .before .before .pre in
-    (omega arith, omega (arith, p .0, p .1 .long, c .before .loop-test .taken), omega (arith, p .1 .space, c .before .loop-test .taken, c .before .before .loop .inv .1 .long))
+    (omega (arith, p .0, p .1 .long, c .before .loop-test .taken), omega (arith, p .1 .space, c .before .loop-test .taken, c .before .before .loop .inv .1 .long))
 
 loop-less : tie.Need-loop-less Inv-loop μ-loop
 loop-less c = search needs
 
 loop-again : tie.Need-loop-again Inv-loop μ-loop
 loop-again c =
-    let lp = c .before .before .before .before .before in
-    let a = lp .before .before .before .args in
-    let strip = now (a .strip) in
-    let bytes = row-whole strip (lp .loop .x * 64 + a .y * 8) (λ i. omega (arith, lp .before .before .shared-slice-known .given i)) in (
-      omega arith,
-      filled-more 8 (λ x. length-ones 8 (λ j. getD strip (x * 64 + a .y * 8 + j) 0)) (lp .loop .inv .1)
-          (c .before .before .put-eight .ensures ∙ ap (λ (l : List ℕ). sets (lp .loop .out) (a .at + lp .loop .x * 8) l) bytes),
-    )
+    (omega arith, filled-more 8 (λ x. refl) (c .before .before .before .before .before .loop .inv .1) (c .before .before .put-eight .ensures))
 
 same-length : tie.Need-same-length Inv-loop μ-loop
 same-length c = c .before .loop .inv .1 .long

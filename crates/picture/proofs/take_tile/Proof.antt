@@ -31,14 +31,14 @@ add-corner c = omega (arith, c .before .pre .inside)
 loop-holds : tie.Need-loop-holds Inv-loop μ-loop
 loop-holds c = (omega arith, filled-none _ _ _)
 
-mul-put-eight : tie.Need-mul-put-eight Inv-loop μ-loop
-mul-put-eight c = omega (arith, row-there (c .before .before .before .pre) (c .before .loop .y) (c .loop-test .taken))
+mul-cut-eight : tie.Need-mul-cut-eight Inv-loop μ-loop
+mul-cut-eight c = omega (arith, row-there (c .before .before .before .pre) (c .before .loop .y) (c .loop-test .taken))
 
-add-put-eight : tie.Need-add-put-eight Inv-loop μ-loop
-add-put-eight c = omega (arith, row-there (c .before .before .before .pre) (c .before .loop .y) (c .loop-test .taken))
+add-cut-eight : tie.Need-add-cut-eight Inv-loop μ-loop
+add-cut-eight c = omega (arith, row-there (c .before .before .before .pre) (c .before .loop .y) (c .loop-test .taken))
 
-put-eight-requires : tie.Need-put-eight-requires Inv-loop μ-loop
-put-eight-requires c κs =
+cut-eight-requires : tie.Need-cut-eight-requires Inv-loop μ-loop
+cut-eight-requires c κs =
     let t = c .before in
     let s = t .before .before .before in
     (s .pre .deep, omega (arith, row-there (s .pre) (t .before .loop .y) (t .loop-test .taken)), omega (arith, t .before .loop .inv .1 .long))
@@ -49,7 +49,7 @@ loop-less c = search needs
 loop-again : tie.Need-loop-again Inv-loop μ-loop
 loop-again c =
     let a = c .before .before .before .before .before .before .args in
-    (omega arith, filled-next 8 (row-length (a .depth) (a .columns) (now (a .pixels)) (a .i)) (c .before .before .before .before .loop .inv .1) (c .before .put-eight .ensures))
+    (omega arith, filled-next 8 (row-length (a .depth) (a .columns) (now (a .pixels)) (a .i)) (c .before .before .before .before .loop .inv .1) (c .before .cut-eight .ensures))
 
 returns : tie.Need-returns Inv-loop μ-loop
 returns c =
@@ -70,11 +70,11 @@ take-tile-spec =
     mul-corner-3
     add-corner
     loop-holds
-    mul-put-eight
-    add-put-eight
+    mul-cut-eight
+    add-cut-eight
     (λ c. search needs)
     (λ c. search needs)
-    put-eight-requires
+    cut-eight-requires
     (λ c. search needs)
     loop-less
     loop-again

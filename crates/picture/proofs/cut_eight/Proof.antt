@@ -8,8 +8,8 @@ use lib.ListN.{getD}
 use denote.Ref.{now}
 use Rattle.words.proofs.Filling.{Filled, filled-none, filled-one, filled-all}
 use borrow.Author.Needs.{needs}
-use Rattle.picture.proofs.put_eight.Statement.{statement}
-use Rattle.picture.proofs.put_eight.Tie as tie
+use Rattle.picture.proofs.cut_eight.Statement.{statement}
+use Rattle.picture.proofs.cut_eight.Tie as tie
 
 abbrev Inv-loop : tie.InvT-loop
 Inv-loop depth pixels from out₀ at x₀ out x = (x ≤ 8) × Filled (λ x. getD pixels (from + x) 0 % 2 ^ depth ∷ []) out₀ at x out
@@ -44,8 +44,8 @@ same-length c = c .before .loop .inv .1 .long
 returns : tie.Need-returns Inv-loop μ-loop
 returns c = filled-all 8 (c .before .loop .inv .1) (omega arith)
 
-pub put-eight-spec : {M : Type 1} → statement M
-put-eight-spec =
+pub cut-eight-spec : {M : Type 1} → statement M
+cut-eight-spec =
     tie.close
     (tie.spec
     Inv-loop
