@@ -1,4 +1,4 @@
--- Words that were turned once give the rows of every plane, at each depth and in each group; and the halves of a row of a sprite's cell.
+-- Words that were turned once give the rows of every plane, at each depth and in each group.
 -- Assumes nothing.
 use mathlib.Core.Path.{_≡_, sym, ap, ap₂, _∙_, subst}
 use mathlib.Core.Bool.{Bool, false, _&&_}
@@ -9,15 +9,15 @@ use native.Mathlib.Nat.{eq-zero-or-pos, zero-div, zero-add}
 use native.Mathlib.Omega.{arith}
 use lib.Dec.{T, ltb, eqb, ltb→lt}
 use lib.ListN.{List·getD-eq-default, length, getD}
-use Rattle.words.specs.Eights.{wide, wordAt, byteIn}
+use Rattle.words.specs.Eights.{wordAt, byteIn}
 use Rattle.words.specs.Inner.{all}
-use Rattle.words.proofs.Eights.{wide-byte, word-small, word-byte-at}
+use Rattle.words.proofs.Eights.{word-small, word-byte-at}
 use Rattle.words.proofs.Loops.{both-left, both-right, all-at}
 use Rattle.mode.specs.Table.{oneOf}
-use Rattle.tile.specs.Bits.{bitOf, fromBits}
+use Rattle.tile.specs.Bits.{bitOf}
 use Rattle.tile.specs.Layout.{element}
 use Rattle.tile.specs.Packings.{planar}
-use Rattle.tile.specs.Inner.{isPacking, byteOf, WordsIn, Columns, wordFrom, HasWord, column, strands, rowByte, half, crossed, reversedBytes}
+use Rattle.tile.specs.Inner.{isPacking, byteOf, WordsIn, Columns, wordFrom, HasWord, column, strands, crossed, reversedBytes}
 use Rattle.tile.specs.declared.Packing.the-variants.{Planar}
 use Rattle.tile.proofs.Bits.{bit-lt, bits-same, bit-of-bits}
 use Rattle.tile.proofs.Wires.{columns-is}
@@ -88,19 +88,3 @@ planar-row-is g d t xs ts r w h len lr e m lm =
     ∙ ap₂ (λ (x y : ℕ). bitOf (7 - x) (getD xs y 0)) (strand-column (p / g * g) (k / 8 * g) (k % 8) (omega arith))
     (strand-place (p / g * g) (k / 8 * g) (k % 8) (p % g) (omega arith) ∙ regroup (p / g) g (k / 8 * g) (p % g)))
     ∙ fewer-planes xs g d k (planes-of g d t) len
-
--- ---- eight pixels of a sprite
-
-half-place : (k h p : ℕ) → p < 4 → k + (h * 4 + p) % 4 * 32 + (h * 4 + p) / 4 ≡ k + h + p * 32
-half-place k h p l = omega arith
-
-pub half-pixel : (xs : List ℕ) (k h v w m : ℕ) → ((i : ℕ) → getD xs i 0 < 256) → h < 2 → v ≡ wide 8 0 (rowByte xs k) → w ≡ wordFrom (half h) (v ∷ []) 0 → m < 8
-    → byteIn w m ≡ fromBits 4 0 (λ p. bitOf m (getD xs (k + h + p * 32) 0))
-half-pixel xs k h v w m small lh e g lm =
-    ap (λ (x : ℕ). byteIn x m) g
-    ∙ word-byte (half h) (v ∷ []) 0 m (omega arith) (λ j l. omega arith) lm
-    ∙ bits-same 4 0 (λ p. bitOf (0 * 8 + m) (byteOf (v ∷ []) (h * 4 + p))) (λ p. bitOf m (getD xs (k + h + p * 32) 0))
-    (λ p a c. let q = h * 4 + p in
-    ap₂ bitOf (zero-add m)
-    (only v q (omega arith) ∙ ap (λ (v : ℕ). byteIn v q) e ∙ wide-byte 8 0 q (rowByte xs k) (λ q. small (k + q % 4 * 32 + q / 4)) (omega arith) ∙ ap (rowByte xs k) (zero-add q)
-    ∙ ap (λ (i : ℕ). getD xs i 0) (half-place k h p (omega arith))))

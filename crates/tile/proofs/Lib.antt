@@ -8,6 +8,8 @@ pub mod Sides
 pub mod Packings
 pub mod Columns
 pub mod Packed
+pub mod Scattered
+pub mod CellRows
 pub mod Native
 pub mod Checks
 pub mod Laws

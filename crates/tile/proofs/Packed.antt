@@ -20,7 +20,7 @@ use Rattle.tile.specs.declared.Packing.the-variants.{Planar}
 use Rattle.tile.proofs.Bits.{bits-same, bits-of}
 use Rattle.tile.proofs.Filling.{spread-is}
 use Rattle.tile.proofs.RoundTrip.{isLayout, from-pixels, from-bytes}
-use Rattle.tile.proofs.Packings.{layout-is, planes-of, cellFrom, rowAt}
+use Rattle.tile.proofs.Packings.{layout-is, planes-of, cellFrom}
 use Rattle.tile.proofs.Sides.{word-byte, has-word}
 
 -- a layout of at most n words of pixels and m of bytes
@@ -99,24 +99,6 @@ sprite-byte w h c k xs l =
 pub sprite-cell : (w h c n : ℕ) (xs : List ℕ) → n ≤ 128 → each n (λ k. cellByte xs (cellFrom w h c) w k ∷ []) ≡ each n (λ k. element (sprite w h .bytes) xs (c * 128 + k) ∷ [])
 sprite-cell w h c n xs l =
     each-eq n (λ k. cellByte xs (cellFrom w h c) w k ∷ []) (λ k. element (sprite w h .bytes) xs (c * 128 + k) ∷ []) (λ k lk. ap (λ (x : ℕ). x ∷ []) (sprite-byte w h c k xs (omega arith)))
-
--- the pixels of half e of cell x in row y
-plane-place : (x h y p e : ℕ) → x * (h * 128) + (y / 16 * 128 + y % 16 * 2) + e + p * 32 ≡ (x * h + y / 16) * 128 + p * 32 + y % 16 * 2 + e
-plane-place x h y p e = omega arith
-
-pub sprite-pixel : (w h y x e m : ℕ) (bs : List ℕ) → x * 16 + 16 ≤ w → e < 2 → m < 8 → fromBits 4 0 (λ p. bitOf m (getD bs (rowAt h y x + e + p * 32) 0)) ≡ element (sprite w h .pixels) bs (y * w + ((x * 2 + e) * 8 + m))
-sprite-pixel w h y x e m bs l le lm =
-    let j = (x * 2 + e) * 8 + m in
-    let i = y * w + j in
-    let row : i / w ≡ y = mul-add-div-right {m = w} (omega arith) y j ∙ ap (λ (k : ℕ). y + k) (div-eq-of-lt (omega arith)) ∙ add-zero y in
-    let column : i % w ≡ j = mul-add-mod-self-right y w j ∙ mod-eq-of-lt (omega arith) in
-    let cell : j / 16 ≡ x = omega arith in
-    let half : j % 16 / 8 ≡ e = omega arith in
-    let bit : j % 8 ≡ m = omega arith in
-    bits-same 4 0 (λ p. bitOf m (getD bs (rowAt h y x + e + p * 32) 0)) (λ p. bitOf (i % w % 8) (getD bs (spriteByte h (i % w) (i / w) p) 0))
-    (λ p a b. sym (ap₂ (λ (x y : ℕ). bitOf (x % 8) (getD bs (spriteByte h x y p) 0)) column row
-    ∙ ap₂ (λ (b k : ℕ). bitOf b (getD bs k 0)) bit
-    (ap₂ (λ (c e : ℕ). (c * (h / 16) + y / 16) * 128 + p * 32 + y % 16 * 2 + e) cell half ∙ sym (plane-place x (h / 16) y p e))))
 
 -- ---- pixels as they are
 

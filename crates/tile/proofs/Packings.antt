@@ -55,7 +55,7 @@ planar-is g d t =
 -- ---- sprites
 
 -- a test that is computed over the six sizes, as a rule at each
-sizes-at : (f : ℕ → ℕ → Bool) → T (inEach (16 ∷ 32 ∷ []) (λ w. inEach (16 ∷ 32 ∷ 64 ∷ []) (f w))) → (w h : ℕ) → T (isPacking (Sprite w h)) → T (f w h)
+pub sizes-at : (f : ℕ → ℕ → Bool) → T (inEach (16 ∷ 32 ∷ []) (λ w. inEach (16 ∷ 32 ∷ 64 ∷ []) (f w))) → (w h : ℕ) → T (isPacking (Sprite w h)) → T (f w h)
 sizes-at f all w h t =
     each-at (16 ∷ 32 ∷ 64 ∷ []) (f w)
     (each-at (16 ∷ 32 ∷ []) (λ w. inEach (16 ∷ 32 ∷ 64 ∷ []) (f w)) all w (both-left (oneOf w (16 ∷ 32 ∷ [])) (oneOf h (16 ∷ 32 ∷ 64 ∷ [])) t))
@@ -126,7 +126,7 @@ sized-of w h t =
       cells = eqb→eq (w / 16 * (h / 16) * 128) (w * h * 4 / 8) (both-right (eqb (w % 16) 0) (eqb (w / 16 * (h / 16) * 128) (w * h * 4 / 8)) te);
     }
 
--- where a cell's first pixel stands, its last is within the sprite; and where a row of a cell begins in the first plane, it ends in the last
+-- where a cell's first pixel stands, its last is within the sprite
 abbrev pub cellFrom : ℕ → ℕ → ℕ → ℕ
 cellFrom w h c = (c % (h / 16) * w + c / (h / 16)) * 16
 
@@ -134,15 +134,6 @@ pub cell-inside : (w h c : ℕ) → T (isPacking (Sprite w h)) → c < w / 16 * 
 cell-inside w h c t l =
     let test : ℕ → ℕ → ℕ → Bool = λ w h c. leb (cellFrom w h c + 15 * w + 16) (w * h) in
     leb→le (cellFrom w h c + 15 * w + 16) (w * h) (all-at (w / 16 * (h / 16)) (test w h) (sizes-at (λ (w h : ℕ). all (w / 16 * (h / 16)) (test w h)) tt w h t) c l)
-
-abbrev pub rowAt : ℕ → ℕ → ℕ → ℕ
-rowAt h y x = x * (h / 16 * 128) + (y / 16 * 128 + y % 16 * 2)
-
-pub planes-inside : (w h y x : ℕ) → T (isPacking (Sprite w h)) → y < h → x < w / 16 → rowAt h y x + 97 < w * h * 4 / 8
-planes-inside w h y x t ly lx =
-    let test : ℕ → ℕ → ℕ → ℕ → Bool = λ w h y x. ltb (rowAt h y x + 97) (w * h * 4 / 8) in
-    let rows : T (all h (λ y. all (w / 16) (test w h y))) = sizes-at (λ (w h : ℕ). all h (λ y. all (w / 16) (test w h y))) tt w h t in
-    ltb→lt (rowAt h y x + 97) (w * h * 4 / 8) (all-at (w / 16) (test w h y) (all-at h (λ y. all (w / 16) (test w h y)) rows y ly) x lx)
 
 -- ---- a part that is a whole tile
 

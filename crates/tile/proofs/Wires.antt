@@ -5,7 +5,6 @@ use mathlib.Core.Bool.{Bool}
 use mathlib.Core.List.{List, [], _∷_}
 use Prim.Native.Nat.{ℕ, zero, suc, _+_, _-_, _*_, _/_, _%_, _^_, _<_}
 use native.Mathlib.Omega.{arith}
-use lib.Bits.{bitAnd}
 use lib.Dec.{T, ltb}
 use lib.ListN.{getD}
 use lib.Pow.{pow-pos}
@@ -13,7 +12,7 @@ use Rattle.words.specs.Inner.{all}
 use Rattle.words.proofs.Loops.{all-at}
 use Rattle.tile.specs.Layout.{Side}
 use Rattle.tile.specs.Packings.{planar, ngp, lowFirst, highFirst}
-use Rattle.tile.specs.Inner.{Small, wordFrom, column, half, strands, cell, crossed, reversedBytes}
+use Rattle.tile.specs.Inner.{Small, wordFrom, column, strands, cell, quarter, crossed, reversedBytes}
 use Rattle.tile.proofs.Wiring.{Wire, given, down, up, keep, join, value, pick, merge, origin, isFrom, suits, isWiredIn, wired-in}
 
 -- the wire of each of n words is as the side says
@@ -56,23 +55,9 @@ columns-wire : T (isSide column 1 (λ b. backwards (cross (given 0))))
 unfolding isSide isWiredIn cross backwards swap trade origin pick merge isFrom suits
 columns-wire = tt
 
-unfoldable pub halfOf : ℕ → Wire
-halfOf h = keep (down (cross (given 0)) (h * 4)) 0x0f0f0f0f0f0f0f0f
-
-halves-are : T (all 2 (λ h. isSide (half h) 1 (λ b. halfOf h)))
-unfolding isSide isWiredIn halfOf cross swap origin pick merge isFrom suits
-halves-are = tt
-
 one-small : (v : ℕ) → v < 2 ^ 64 → Small (v ∷ [])
 one-small v l zero = l
 one-small v l (suc i) = pow-pos 64
-
-pub half-is : (v h : ℕ) → v < 2 ^ 64 → h < 2 → bitAnd (crossed v / 2 ^ (h * 4)) 0x0f0f0f0f0f0f0f0f ≡ wordFrom (half h) (v ∷ []) 0
-unfolding value halfOf
-half-is v h l lh =
-    let e : ℕ → ℕ = λ i. getD (v ∷ []) i 0 in
-    ap (λ (c : ℕ). bitAnd (c / 2 ^ (h * 4)) 0x0f0f0f0f0f0f0f0f) (cross-value e (given 0))
-    ∙ word-is (half h) 1 (λ b. halfOf h) (all-at 2 (λ h. isSide (half h) 1 (λ b. halfOf h)) halves-are h lh) (v ∷ []) (one-small v l) 0 (omega arith)
 
 pub columns-is : (v : ℕ) → v < 2 ^ 64 → reversedBytes (crossed v) ≡ wordFrom column (v ∷ []) 0
 unfolding value
@@ -150,6 +135,26 @@ four-row-is = tt
 pub cell-plane-is : T (isSide cell 16 cellPlane)
 unfolding isSide isWiredIn cellPlane eight one part cross swap origin pick merge isFrom suits
 cell-plane-is = tt
+
+-- ---- a cell's pixels out of its planes
+
+unfoldable pub sides : ℕ → ℕ → ℕ → Wire → Wire → Wire
+sides s n m v w = join (keep (down v s) m) (up (keep (down w s) m) n)
+
+unfoldable pub bitsOf : ℕ → Wire
+bitsOf k =
+    sides (k / 2 * 2) 2 0x3333333333333333 (sides (k % 2) 1 0x5555555555555555 (given 0) (given 1)) (sides (k % 2) 1 0x5555555555555555 (given 2) (given 3))
+
+unfoldable pub pixels : ℕ → Wire
+pixels k =
+    let x : Wire = sides (k % 2 * 8) 8 0x00ff00ff00ff00ff (bitsOf 0) (bitsOf 1) in
+    let y : Wire = sides (k % 2 * 8) 8 0x00ff00ff00ff00ff (bitsOf 2) (bitsOf 3) in
+    let z : Wire = keep (down (sides (k / 2 % 2 * 16) 16 0x0000ffff0000ffff x y) (k / 4 * 32)) 0x00000000ffffffff in
+    keep (join z (up z 28)) 0x0f0f0f0f0f0f0f0f
+
+pub pixels-are : T (isSide quarter 8 pixels)
+unfolding isSide isWiredIn pixels bitsOf sides origin pick merge isFrom suits
+pixels-are = tt
 
 -- ---- nibbles and ngp
 

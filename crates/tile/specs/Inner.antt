@@ -7,7 +7,9 @@ use Prim.Native.Nat.{ℕ, zero, suc, _+_, _-_, _*_, _/_, _%_, _^_, _≤_, _<_}
 use lib.Bits.{bitAnd, bitOr}
 use lib.Dec.{T, ltb, eqb}
 use lib.ListN.{length, getD}
-use Rattle.words.specs.Eights.{byteIn}
+use lib.Seq.{sets}
+use Rattle.words.specs.Eights.{wordAt, byteIn, bytesIn}
+use Rattle.words.specs.Loops.{each}
 use Rattle.mode.specs.Table.{oneOf}
 use Rattle.tile.specs.Bits.{bitOf, fromBits}
 use Rattle.tile.specs.Packings.{layoutIn, lowFirst, highFirst}
@@ -145,13 +147,24 @@ cell = record { count = 128; bits = 8; from = λ k j. k % 32 * 8 + j; place = λ
 abbrev pub cellByte : List ℕ → ℕ → ℕ → ℕ → ℕ
 cellByte xs from w k = fromBits 8 0 (λ j. bitOf (k / 32) (getD xs (from + k % 32 / 2 * w + (k % 2 * 8 + j)) 0))
 
--- A row of a cell has eight bytes: byte q is that of plane q % 4 in half q / 4, where the first stands at place k.
-abbrev pub rowByte : List ℕ → ℕ → ℕ → ℕ
-rowByte xs k q = getD xs (k + q % 4 * 32 + q / 4) 0
+-- The pixels of eight bytes out of a word of each plane, four bits a pixel: word k has those of byte k.
+abbrev pub quarter : Side
+quarter = record { count = 64; bits = 4; from = λ i p. p * 8 + i / 8; place = λ i p. i % 8 }
 
--- The eight pixels of a half out of the word of those bytes.
-abbrev pub half : ℕ → Side
-half h = record { count = 8; bits = 4; from = λ x p. h * 4 + p; place = λ x p. x }
+-- Eight bytes of each plane as words, the first plane's from place from on; the words of their pixels; and those of a cell, two a row.
+abbrev pub planesAt : List ℕ → ℕ → List ℕ
+planesAt xs from = wordAt false xs from ∷ wordAt false xs (from + 32) ∷ wordAt false xs (from + 64) ∷ wordAt false xs (from + 96) ∷ []
+
+abbrev pub quarterWords : List ℕ → ℕ → List ℕ
+quarterWords xs from = each 8 (λ k. wordFrom quarter (planesAt xs from) k ∷ [])
+
+abbrev pub cellWords : List ℕ → ℕ → List ℕ
+cellWords xs from = each 4 (λ j. quarterWords xs (from + j * 8))
+
+-- n words stored, each at its place.
+unfoldable pub storedAt : ℕ → (ℕ → ℕ) → (ℕ → ℕ) → List ℕ → List ℕ
+storedAt zero place word out = out
+storedAt (suc n) place word out = sets (storedAt n place word out) (place n) (bytesIn (word n))
 
 -- ---- the word functions' exchanges
 
@@ -172,3 +185,10 @@ reversedBytes w =
     let a : ℕ = bitOr (bitAnd w 0x00ff00ff00ff00ff * 2 ^ 8 % 2 ^ 64) (bitAnd (w / 2 ^ 8) 0x00ff00ff00ff00ff) in
     let b : ℕ = bitOr (bitAnd a 0x0000ffff0000ffff * 2 ^ 16 % 2 ^ 64) (bitAnd (a / 2 ^ 16) 0x0000ffff0000ffff) in
     bitOr (b * 2 ^ 32 % 2 ^ 64) (b / 2 ^ 32)
+
+-- Fields of n bits of two words side by side; and by them the bits of pixels k and k + 4 of each byte, one of each plane.
+unfoldable pub beside : ℕ → ℕ → ℕ → ℕ → ℕ → ℕ
+beside s n m a b = bitOr (bitAnd (a / 2 ^ s) m) (bitAnd (b / 2 ^ s) m * 2 ^ n % 2 ^ 64)
+
+unfoldable pub pixelBits : ℕ → ℕ → ℕ → ℕ → ℕ → ℕ
+pixelBits a b c d k = beside (k / 2 * 2) 2 0x3333333333333333 (beside (k % 2) 1 0x5555555555555555 a b) (beside (k % 2) 1 0x5555555555555555 c d)

@@ -5,17 +5,17 @@ use words::Written;
 use words::refusal;
 ghost use mathlib.Core.Path.{_≡_};
 ghost use mathlib.Core.List.{[], _∷_};
-ghost use Prim.Native.Nat.{_+_, _*_, _^_, _<_, _≤_};
+ghost use Prim.Native.Nat.{_+_, _*_, _/_, _%_, _<_, _≤_};
 ghost use lib.Dec.{T};
 ghost use lib.ListN.{length, getD, take, drop};
 ghost use lib.Seq.{sets};
 ghost use Rattle.words.specs.Answers.{Wrote};
-ghost use Rattle.words.specs.Eights.{wide, bytesIn};
+ghost use Rattle.words.specs.Eights.{bytesIn};
 ghost use Rattle.words.specs.Loops.{each, some};
 ghost use Rattle.mode.specs.Table.{oneOf};
-ghost use Rattle.tile.specs.Layout.{element, spread};
+ghost use Rattle.tile.specs.Layout.{spread};
 ghost use Rattle.tile.specs.Packings.{planar, ngp, lowFirst, highFirst, sprite};
-ghost use Rattle.tile.specs.Inner.{pixelCount, byteCount, packedIn, unpackedIn, isPacking, Packs, Unpacks, PacksWhole, UnpacksWhole, Group, nibbles, Small, WordsOf, CellOf, WordsIn, Columns, wordFrom, WordsFrom, strands, cell, cellByte, rowByte, half, crossed, reversedBytes};
+ghost use Rattle.tile.specs.Inner.{pixelCount, byteCount, packedIn, unpackedIn, isPacking, Packs, Unpacks, PacksWhole, UnpacksWhole, Group, nibbles, Small, WordsOf, CellOf, WordsIn, Columns, wordFrom, WordsFrom, strands, cell, cellByte, quarter, quarterWords, cellWords, storedAt, crossed, reversedBytes, beside, pixelBits};
 ghost use Rattle.tile.specs.Tile.{pairs, fours, gbaPacking, wscPacking, packingOf, isNative, tooLarge, tileSays, packSays, unpackSays, packed, unpacked};
 
 // How the bits of a tile's pixels stand in its bytes.
@@ -518,53 +518,105 @@ fn put_nibble_rows(bytes: &[u8], high: bool, out: &mut [u8], at: usize)
     }
 }
 
-// The word of a row of a cell, whose first byte stands at place k: the planes of one half, then those of the other.
-fn row_word(bytes: &[u8], k: usize) -> u64
-    requires { ⌜ k + 97 < length (now bytes) ⌝ }
-    ensures { λ r. ⌜ (r ≡ wide 8 0 (rowByte (now (bytes .entry)) k)) × (r < 2 ^ 64) ⌝ }
+// Fields of n bits that stand 2n apart, those of a and those of b, side by side: moved down by s first, as far as m keeps them, b's above a's.
+fn beside(a: u64, b: u64, s: usize, n: usize, m: u64) -> u64
+    requires { ⌜ (s < 64) × (n < 64) ⌝ }
+    ensures { λ r. ⌜ r ≡ beside s n m a b ⌝ }
 {
-    let mut w: u64 = 0;
-    let mut n = 0;
-    while n < 8 {
-        w = w * 256 + words::widen(bytes[k + (7 - n) % 4 * 32 + (7 - n) / 4]);
-        n += 1;
+    ((a >> s) & m) | (((b >> s) & m) << n)
+}
+
+// The words a, b, c, d have a plane each, a byte for eight pixels: pixels k and k + 4 of each byte, the four bits of one side by side.
+fn pixel_bits(a: u64, b: u64, c: u64, d: u64, k: usize) -> u64
+    requires { ⌜ k < 4 ⌝ }
+    ensures { λ r. ⌜ r ≡ pixelBits a b c d k ⌝ }
+{
+    let low = beside(a, b, k % 2, 1, 0x5555555555555555);
+    let high = beside(c, d, k % 2, 1, 0x5555555555555555);
+    beside(low, high, k / 2 * 2, 2, 0x3333333333333333)
+}
+
+// The eight pixels of byte k, a byte each: the pixels are joined by bits, then by bytes, so that the words of eight bytes share the most of it.
+fn pixel_word(a: u64, b: u64, c: u64, d: u64, k: usize) -> u64
+    requires { ⌜ Small (a ∷ b ∷ c ∷ d ∷ []) × (k < 8) ⌝ }
+    ensures { λ r. ⌜ r ≡ wordFrom quarter (a ∷ b ∷ c ∷ d ∷ []) k ⌝ }
+{
+    let s = k % 2 * 8;
+    let x = beside(
+        pixel_bits(a, b, c, d, 0),
+        pixel_bits(a, b, c, d, 1),
+        s,
+        8,
+        0x00ff00ff00ff00ff,
+    );
+    let y = beside(
+        pixel_bits(a, b, c, d, 2),
+        pixel_bits(a, b, c, d, 3),
+        s,
+        8,
+        0x00ff00ff00ff00ff,
+    );
+    let four = beside(x, y, k / 2 % 2 * 16, 16, 0x0000ffff0000ffff);
+    let z = (four >> (k / 4 * 32)) & 0x00000000ffffffff;
+    (z | (z << 28)) & 0x0f0f0f0f0f0f0f0f
+}
+
+// The pixels of eight bytes of each plane, of which the first plane's stand from place from on: eight words, from place at of ws on.
+fn put_quarter(bytes: &[u8], from: usize, ws: &mut [u64], at: usize)
+    requires { ⌜ (from + 104 ≤ length (now bytes)) × (at + 8 ≤ length (now ws)) ⌝ }
+    ensures { λ _. ⌜ now (ws .exit) ≡ sets (now (ws .entry)) at (quarterWords (now (bytes .entry)) from) ⌝ }
+{
+    let a = words::word_at(bytes, from, false);
+    let b = words::word_at(bytes, from + 32, false);
+    let c = words::word_at(bytes, from + 64, false);
+    let d = words::word_at(bytes, from + 96, false);
+    let mut k = 0;
+    while k < 8 {
+        ws[at + k] = pixel_word(a, b, c, d, k);
+        k += 1;
     }
-    w
 }
 
-// Eight pixels of a row of a cell. Both halves are exchanged at once.
-fn half_word(w: u64, h: usize) -> u64
-    requires { ⌜ (w < 2 ^ 64) × (h < 2) ⌝ }
-    ensures { λ r. ⌜ r ≡ wordFrom (half h) (w ∷ []) 0 ⌝ }
+// The pixels of a cell, two words a row.
+fn cell_pixels(bytes: &[u8], from: usize) -> [u64; 32]
+    requires { ⌜ from + 128 ≤ length (now bytes) ⌝ }
+    ensures { λ r. ⌜ r ≡ cellWords (now (bytes .entry)) from ⌝ }
 {
-    (cross(w) >> (h * 4)) & 0x0f0f0f0f0f0f0f0f
+    let mut ws = [0u64; 32];
+    let mut j = 0;
+    while j < 4 {
+        put_quarter(bytes, from + j * 8, &mut ws, j * 8);
+        j += 1;
+    }
+    ws
 }
 
-// Row y of a sprite, a cell at a time.
-fn put_sprite_row(bytes: &[u8], width: usize, height: usize, y: usize, out: &mut [u8], at: usize)
-    requires { ⌜ T (isPacking (Packing.Sprite width height)) × (length (now bytes) ≡ byteCount (Packing.Sprite width height)) × (y < height) × (at + width ≤ length (now out)) ⌝ }
-    ensures { λ _. ⌜ now (out .exit) ≡ sets (now (out .entry)) at (each width (λ x. element (sprite width height .pixels) (now (bytes .entry)) (y * width + x) ∷ [])) ⌝ }
+// The rows of a cell, two words a row, in rows of so many pixels from place at of out on.
+fn put_cell_rows(ws: &[u64; 32], width: usize, out: &mut [u8], at: usize)
+    requires { ⌜ (width ≤ 32) × (at + 15 * width + 16 ≤ length (now out)) ⌝ }
+    ensures { λ _. ⌜ now (out .exit) ≡ storedAt 32 (λ t. at + t / 2 * width + t % 2 * 8) (λ t. getD (now (ws .entry)) t 0) (now (out .entry)) ⌝ }
 {
-    let column = height / 16 * 128;
-    let row = y / 16 * 128 + y % 16 * 2;
-    let n = width / 16;
-    let mut x = 0;
-    while x < n {
-        let w = row_word(bytes, x * column + row);
-        words::put_bytes(out, at + x * 16, half_word(w, 0));
-        words::put_bytes(out, at + x * 16 + 8, half_word(w, 1));
-        x += 1;
+    let mut t = 0;
+    while t < 32 {
+        words::put_bytes(out, at + t / 2 * width + t % 2 * 8, ws[t]);
+        t += 1;
     }
 }
 
+// The pixels of a sprite, cell by cell.
 fn put_sprite_rows(bytes: &[u8], width: usize, height: usize, out: &mut [u8], at: usize)
     requires { ⌜ UnpacksWhole (Packing.Sprite width height) (now bytes) (now out) at ⌝ }
     ensures { λ _. ⌜ now (out .exit) ≡ sets (now (out .entry)) at (spread (sprite width height .pixels) (now (bytes .entry))) ⌝ }
 {
-    let mut y = 0;
-    while y < height {
-        put_sprite_row(bytes, width, height, y, out, at + y * width);
-        y += 1;
+    let down = height / 16;
+    let n = width / 16 * down;
+    let mut c = 0;
+    while c < n {
+        let left = c / down;
+        let above = c % down;
+        let ws = cell_pixels(bytes, c * 128);
+        put_cell_rows(&ws, width, out, at + (above * width + left) * 16);
+        c += 1;
     }
 }
 
