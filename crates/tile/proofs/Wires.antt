@@ -13,7 +13,7 @@ use Rattle.words.specs.Inner.{all}
 use Rattle.words.proofs.Loops.{all-at}
 use Rattle.tile.specs.Layout.{Side}
 use Rattle.tile.specs.Packings.{planar, ngp, lowFirst, highFirst}
-use Rattle.tile.specs.Inner.{Small, wordFrom, column, half, strands, cell, crossed, reversedBytes}
+use Rattle.tile.specs.Inner.{Small, wordFrom, column, half, strands, cell, crossed, reversedBytes, gathered}
 use Rattle.tile.proofs.Wiring.{Wire, given, down, up, keep, join, value, pick, merge, origin, isFrom, suits, isWiredIn, wired-in}
 
 -- the wire of each of n words is as the side says
@@ -51,6 +51,13 @@ cross-value e w = refl
 pub backwards-value : (e : ℕ → ℕ) (w : Wire) → reversedBytes (value e w) ≡ value e (backwards w)
 unfolding reversedBytes value backwards trade
 backwards-value e w = refl
+
+-- a word of wires that is turned round and crossed
+pub turned-is : (s : Side) (n : ℕ) (w : ℕ → Wire) → T (isSide s n (λ b. cross (backwards (w b)))) → (ws : List ℕ) → Small ws → (b x y : ℕ) → b < n
+    → x ≡ reversedBytes (value (λ i. getD ws i 0) (w b)) → y ≡ crossed x → y ≡ wordFrom s ws b
+turned-is s n w t ws h b x y l e f =
+    let g : ℕ → ℕ = λ i. getD ws i 0 in
+    f ∙ ap crossed (e ∙ backwards-value g (w b)) ∙ cross-value g (backwards (w b)) ∙ word-is s n (λ b. cross (backwards (w b))) t ws h b l
 
 columns-wire : T (isSide column 1 (λ b. backwards (cross (given 0))))
 unfolding isSide isWiredIn cross backwards swap trade origin pick merge isFrom suits
@@ -91,9 +98,15 @@ unfoldable pub one : ℕ → ℕ → ℕ → Wire
 one i s m = keep (down (given i) s) m
 
 -- the words at, at + 1, ..
-unfoldable pub eight : ℕ → ℕ → ℕ → Wire
-eight at s m =
-    join (join (join (join (join (join (join (one at s m) (part (at + 1) s m 1)) (part (at + 2) s m 2)) (part (at + 3) s m 3)) (part (at + 4) s m 4)) (part (at + 5) s m 5)) (part (at + 6) s m 6)) (part (at + 7) s m 7)
+unfoldable pub eight : ℕ → ℕ → Wire
+eight at s =
+    let m : ℕ = 0x0101010101010101 in
+    let up : ℕ → Wire = λ k. part (at + k) s m k in
+    join (join (join (join (join (join (join (one at s m) (up 1)) (up 2)) (up 3)) (up 4)) (up 5)) (up 6)) (up 7)
+
+pub eight-value : (ws : List ℕ) (at s : ℕ) → gathered ws at s ≡ value (λ i. getD ws i 0) (eight at s)
+unfolding gathered value eight one part
+eight-value ws at s = refl
 
 -- the words at, at + n, ..
 unfoldable pub four : ℕ → ℕ → ℕ → ℕ → ℕ → Wire
@@ -103,16 +116,16 @@ unfoldable pub two : ℕ → ℕ → ℕ → ℕ → ℕ → Wire
 two at n s m u = join (one at s m) (part (at + n) s m u)
 
 unfoldable pub ones : ℕ → Wire
-ones b = cross (backwards (eight 0 b 0x0101010101010101))
+ones b = eight 0 b
 
 unfoldable pub pairs : ℕ → Wire
-pairs b = cross (backwards (four (b % 2 * 4) 1 (b / 2 * 2) 0x0303030303030303 2))
+pairs b = four (b % 2 * 4) 1 (b / 2 * 2) 0x0303030303030303 2
 
 unfoldable pub fours : ℕ → Wire
-fours b = cross (backwards (two (b % 4 * 2) 1 (b / 4 * 4) 0x0f0f0f0f0f0f0f0f 4))
+fours b = two (b % 4 * 2) 1 (b / 4 * 4) 0x0f0f0f0f0f0f0f0f 4
 
 unfoldable pub oneRow : ℕ → Wire
-oneRow r = eight 0 r 0x0101010101010101
+oneRow r = eight 0 r
 
 unfoldable pub pairRow : ℕ → Wire
 pairRow r = four (r / 4) 2 (r % 4 * 2) 0x0303030303030303 2
@@ -121,17 +134,17 @@ unfoldable pub fourRow : ℕ → Wire
 fourRow r = two (r / 2) 4 (r % 2 * 4) 0x0f0f0f0f0f0f0f0f 4
 
 unfoldable pub cellPlane : ℕ → Wire
-cellPlane b = cross (eight (b % 4 * 8) (b / 4) 0x0101010101010101)
+cellPlane b = cross (eight (b % 4 * 8) (b / 4))
 
-pub ones-are : T (isSide (planar 1 8 8 8 .bytes) 8 ones)
+pub ones-are : T (isSide (planar 1 8 8 8 .bytes) 8 (λ b. cross (backwards (ones b))))
 unfolding isSide isWiredIn ones eight one part cross backwards swap trade origin pick merge isFrom suits
 ones-are = tt
 
-pub pairs-are : T (isSide (planar 2 8 8 8 .bytes) 8 pairs)
+pub pairs-are : T (isSide (planar 2 8 8 8 .bytes) 8 (λ b. cross (backwards (pairs b))))
 unfolding isSide isWiredIn pairs four one part cross backwards swap trade origin pick merge isFrom suits
 pairs-are = tt
 
-pub fours-are : T (isSide (planar 4 8 8 8 .bytes) 8 fours)
+pub fours-are : T (isSide (planar 4 8 8 8 .bytes) 8 (λ b. cross (backwards (fours b))))
 unfolding isSide isWiredIn fours two one part cross backwards swap trade origin pick merge isFrom suits
 fours-are = tt
 

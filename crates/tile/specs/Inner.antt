@@ -172,3 +172,14 @@ reversedBytes w =
     let a : ℕ = bitOr (bitAnd w 0x00ff00ff00ff00ff * 2 ^ 8 % 2 ^ 64) (bitAnd (w / 2 ^ 8) 0x00ff00ff00ff00ff) in
     let b : ℕ = bitOr (bitAnd a 0x0000ffff0000ffff * 2 ^ 16 % 2 ^ 64) (bitAnd (a / 2 ^ 16) 0x0000ffff0000ffff) in
     bitOr (b * 2 ^ 32 % 2 ^ 64) (b / 2 ^ 32)
+
+-- Bit s of each byte of a word, moved up by u.
+abbrev pub bitsUp : ℕ → ℕ → ℕ → ℕ
+bitsUp s u w = bitAnd (w / 2 ^ s) 0x0101010101010101 * 2 ^ u % 2 ^ 64
+
+-- Bit s of each byte of eight words from place at on: bit k of a byte is that of word at + k.
+unfoldable pub gathered : List ℕ → ℕ → ℕ → ℕ
+gathered ws at s =
+    let up : ℕ → ℕ = λ k. bitsUp s k (getD ws (at + k) 0) in
+    let low : ℕ = bitOr (bitOr (bitOr (bitAnd (getD ws at 0 / 2 ^ s) 0x0101010101010101) (up 1)) (up 2)) (up 3) in
+    bitOr (bitOr (bitOr (bitOr low (up 4)) (up 5)) (up 6)) (up 7)

@@ -15,7 +15,7 @@ ghost use Rattle.words.specs.Loops.{each, some};
 ghost use Rattle.mode.specs.Table.{oneOf};
 ghost use Rattle.tile.specs.Layout.{element, spread};
 ghost use Rattle.tile.specs.Packings.{planar, ngp, lowFirst, highFirst, sprite};
-ghost use Rattle.tile.specs.Inner.{pixelCount, byteCount, packedIn, unpackedIn, isPacking, Packs, Unpacks, PacksWhole, UnpacksWhole, Group, nibbles, Small, WordsOf, CellOf, WordsIn, Columns, wordFrom, WordsFrom, strands, cell, cellByte, rowByte, half, crossed, reversedBytes};
+ghost use Rattle.tile.specs.Inner.{pixelCount, byteCount, packedIn, unpackedIn, isPacking, Packs, Unpacks, PacksWhole, UnpacksWhole, Group, nibbles, Small, WordsOf, CellOf, WordsIn, Columns, wordFrom, WordsFrom, strands, cell, cellByte, rowByte, half, crossed, reversedBytes, gathered};
 ghost use Rattle.tile.specs.Tile.{pairs, fours, gbaPacking, wscPacking, packingOf, isNative, tooLarge, tileSays, packSays, unpackSays, packed, unpacked};
 
 // How the bits of a tile's pixels stand in its bytes.
@@ -109,22 +109,29 @@ fn reverse_bytes(w: u64) -> u64
     (b << 32) | (b >> 32)
 }
 
+// Bit s of each byte of the eight words from place at on: bit k of a byte is that of word at + k.
+fn gather(ws: &[u64], at: usize, s: usize) -> u64
+    requires { ⌜ (at + 8 ≤ length (now ws)) × (s < 8) ⌝ }
+    ensures { λ r. ⌜ r ≡ gathered (now (ws .entry)) at s ⌝ }
+{
+    let m = 0x0101010101010101;
+    ((ws[at] >> s) & m)
+        | (((ws[at + 1] >> s) & m) << 1)
+        | (((ws[at + 2] >> s) & m) << 2)
+        | (((ws[at + 3] >> s) & m) << 3)
+        | (((ws[at + 4] >> s) & m) << 4)
+        | (((ws[at + 5] >> s) & m) << 5)
+        | (((ws[at + 6] >> s) & m) << 6)
+        | (((ws[at + 7] >> s) & m) << 7)
+}
+
 // Eight bytes of a planar tile whose rows are the words ws: with planes alone, one bit of each pixel of the eight rows; in pairs two bits of four
 // rows; in fours four bits of two.
 fn one_plane_word(ws: &[u64; 8], b: usize) -> u64
     requires { ⌜ Small (now ws) × (b < 8) ⌝ }
     ensures { λ r. ⌜ r ≡ wordFrom (planar 1 8 8 8 .bytes) (now (ws .entry)) b ⌝ }
 {
-    let m = 0x0101010101010101;
-    let w = ((ws[0] >> b) & m)
-        | (((ws[1] >> b) & m) << 1)
-        | (((ws[2] >> b) & m) << 2)
-        | (((ws[3] >> b) & m) << 3)
-        | (((ws[4] >> b) & m) << 4)
-        | (((ws[5] >> b) & m) << 5)
-        | (((ws[6] >> b) & m) << 6)
-        | (((ws[7] >> b) & m) << 7);
-    cross(reverse_bytes(w))
+    cross(reverse_bytes(gather(ws, 0, b)))
 }
 
 fn pair_word(ws: &[u64; 8], b: usize) -> u64
@@ -309,18 +316,7 @@ fn cell_word(ws: &[u64; 32], b: usize) -> u64
     requires { ⌜ Small (now ws) × (b < 16) ⌝ }
     ensures { λ r. ⌜ r ≡ wordFrom cell (now (ws .entry)) b ⌝ }
 {
-    let m = 0x0101010101010101;
-    let at = b % 4 * 8;
-    let s = b / 4;
-    let w = ((ws[at] >> s) & m)
-        | (((ws[at + 1] >> s) & m) << 1)
-        | (((ws[at + 2] >> s) & m) << 2)
-        | (((ws[at + 3] >> s) & m) << 3)
-        | (((ws[at + 4] >> s) & m) << 4)
-        | (((ws[at + 5] >> s) & m) << 5)
-        | (((ws[at + 6] >> s) & m) << 6)
-        | (((ws[at + 7] >> s) & m) << 7);
-    cross(w)
+    cross(gather(ws, b % 4 * 8, b / 4))
 }
 
 // The bytes of a cell: four planes, in a plane two bytes a row.
@@ -389,15 +385,7 @@ fn one_plane_row(ws: &[u64; 8], r: usize) -> u64
     requires { ⌜ Small (now ws) × (r < 8) ⌝ }
     ensures { λ w. ⌜ w ≡ wordFrom (strands 1) (now (ws .entry)) r ⌝ }
 {
-    let m = 0x0101010101010101;
-    ((ws[0] >> r) & m)
-        | (((ws[1] >> r) & m) << 1)
-        | (((ws[2] >> r) & m) << 2)
-        | (((ws[3] >> r) & m) << 3)
-        | (((ws[4] >> r) & m) << 4)
-        | (((ws[5] >> r) & m) << 5)
-        | (((ws[6] >> r) & m) << 6)
-        | (((ws[7] >> r) & m) << 7)
+    gather(ws, 0, r)
 }
 
 fn pair_row(ws: &[u64; 8], r: usize) -> u64

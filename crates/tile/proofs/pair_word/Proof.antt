@@ -1,12 +1,8 @@
 -- Where each of its bits comes from was computed.
-use mathlib.Core.Path.{ap, _∙_}
-use Prim.Native.Nat.{ℕ, _*_, _/_, _%_}
-use lib.ListN.{getD}
 use borrow.Author.Needs.{needs}
 use Rattle.tile.specs.Packings.{planar}
-use Rattle.tile.specs.Inner.{crossed}
 use Rattle.tile.proofs.Wiring.{value}
-use Rattle.tile.proofs.Wires.{word-is, cross, backwards, cross-value, backwards-value, one, part, four, pairs, pairs-are}
+use Rattle.tile.proofs.Wires.{turned-is, one, part, four, pairs, pairs-are}
 use Rattle.tile.proofs.pair_word.Statement.{statement}
 use Rattle.tile.proofs.pair_word.Tie as tie
 
@@ -14,11 +10,7 @@ returns : tie.Need-returns
 unfolding value pairs four one part
 returns c =
     let s = c .before .before .before .before .before .before in
-    let a = s .args in
-    let e : ℕ → ℕ = λ i. getD (a .ws .now) i 0 in
-    let w = four (a .b % 2 * 4) 1 (a .b / 2 * 2) 0x0303030303030303 2 in
-    c .cross .ensures ∙ ap crossed (c .before .reverse-bytes .ensures ∙ backwards-value e w) ∙ cross-value e (backwards w)
-    ∙ word-is (planar 2 8 8 8 .bytes) 8 pairs pairs-are (a .ws .now) (s .pre .0) (a .b) (s .pre .1)
+    turned-is (planar 2 8 8 8 .bytes) 8 pairs pairs-are (s .args .ws .now) (s .pre .0) (s .args .b) _ _ (s .pre .1) (c .before .reverse-bytes .ensures) (c .cross .ensures)
 
 pub pair-word-spec : {M : Type 1} → statement M
 pair-word-spec =
