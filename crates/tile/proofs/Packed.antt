@@ -1,22 +1,25 @@
 -- The words that the code makes have the bytes and the pixels of their packings.
 -- Assumes nothing.
-use mathlib.Core.Path.{_≡_, sym, ap, ap₂, _∙_}
-use mathlib.Core.Bool.{Bool, true, false}
+use mathlib.Core.Path.{_≡_, refl, sym, ap, ap₂, _∙_}
 use mathlib.Core.List.{List, [], _∷_}
 use Prim.Native.Nat.{ℕ, _+_, _-_, _*_, _/_, _%_, _≤_, _<_}
 use native.Mathlib.Nat.{lt-of-lt-of-le, mul-add-div-right, mul-add-mod-self-right, div-eq-of-lt, mod-eq-of-lt, add-zero}
 use native.Mathlib.Omega.{arith}
 use lib.Dec.{T}
 use lib.ListN.{length, getD}
+use denote.Enum.Declared.{tagOf}
+use types.Run.{OneOf, miss}
 use Rattle.words.specs.Loops.{each}
 use Rattle.words.proofs.Items.{each-eq}
 use Rattle.words.proofs.Filling.{each-of}
 use Rattle.tile.specs.Bits.{bitOf, fromBits}
 use Rattle.tile.specs.Layout.{Layout, element, spread}
-use Rattle.tile.specs.Packings.{planar, ngp, plain, sprite, spriteByte}
+use Rattle.tile.specs.Packings.{planar, plain, sprite, spriteByte, layoutIn}
 use Rattle.words.specs.Eights.{byteIn}
-use Rattle.tile.specs.Inner.{isPacking, nibbles, byteOf, WordsOf, CellOf, wordFrom, HasWord, cell, cellByte}
-use Rattle.tile.specs.declared.Packing.the-variants.{Planar}
+use Rattle.tile.specs.Inner.{pixelCount, byteCount, isPacking, isChunky, byteOf, WordsOf, CellOf, wordFrom, HasWord, cell, cellByte}
+use Rattle.tile.specs.declared.Packing.{Packing}
+use Rattle.tile.specs.declared.Packing.the-variants.{Planar, Ngp, LowFirst, HighFirst, Plain, Sprite}
+use Rattle.tile.proofs.Packing.{the-type}
 use Rattle.tile.proofs.Bits.{bits-same, bits-of}
 use Rattle.tile.proofs.Filling.{spread-is}
 use Rattle.tile.proofs.RoundTrip.{isLayout, from-pixels, from-bytes}
@@ -41,20 +44,50 @@ row-law {l} {m = m} f bs ws r w =
     has-word (l .pixels) m bs ws r w (f .deep)
     (λ k j lk lj. let t = from-pixels l (f .is) k j lk lj in (lt-of-lt-of-le (t .within) (f .bytes), lt-of-lt-of-le (t .bit-within) (f .wide)))
 
-pub ngp-fits : Fits (ngp 8 8) 8 2
-ngp-fits = record { is = tt; pixels = omega arith; deep = omega arith; bytes = omega arith; wide = omega arith }
+-- ---- pixels one after the other, each with its bits together
 
-pub nibbles-fit : (high : Bool) → Fits (nibbles high) 8 4
-nibbles-fit true = record { is = tt; pixels = omega arith; deep = omega arith; bytes = omega arith; wide = omega arith }
-nibbles-fit false = record { is = tt; pixels = omega arith; deep = omega arith; bytes = omega arith; wide = omega arith }
+pub record Chunky (p : Packing) : Type 0 where
+  pub fits : Fits (layoutIn p) 8 (byteCount p / 8)
+  pub pixels : pixelCount p ≡ 64
+  pub bytes : byteCount p / 8 * 8 ≡ byteCount p
+  pub few : byteCount p ≤ 32
 
-pub nibble-bytes : (high : Bool) → nibbles high .bytes .count ≡ 32
-nibble-bytes true = omega arith
-nibble-bytes false = omega arith
+chunky : (p : Packing) → T (isLayout (layoutIn p)) → layoutIn p .pixels .bits ≤ 8 → layoutIn p .bytes .bits ≤ 8 → pixelCount p ≡ 64
+    → byteCount p / 8 * 8 ≡ byteCount p → byteCount p ≤ 32 → Chunky p
+chunky p is deep wide pixels bytes few =
+    record {
+      fits = record { is = is; pixels = omega arith; deep = deep; bytes = omega arith; wide = wide };
+      pixels = pixels;
+      bytes = bytes;
+      few = few;
+    }
 
-pub nibble-pixels : (high : Bool) → nibbles high .pixels .count ≡ 64
-nibble-pixels true = omega arith
-nibble-pixels false = omega arith
+pub chunky-of : (p : Packing) → T (isChunky p) → Chunky p
+chunky-of (Planar g d) t = absurd t
+chunky-of Ngp t = chunky Ngp tt (omega arith) (omega arith) refl refl (omega arith)
+chunky-of LowFirst t = chunky LowFirst tt (omega arith) (omega arith) refl refl (omega arith)
+chunky-of HighFirst t = chunky HighFirst tt (omega arith) (omega arith) refl refl (omega arith)
+chunky-of Plain t = absurd t
+chunky-of (Sprite w h) t = absurd t
+
+-- what is left of a match whose other arms name the others
+pub is-chunky : (p : Packing) → OneOf (1 ∷ 2 ∷ 3 ∷ []) (tagOf the-type p) → T (isChunky p)
+is-chunky (Planar g d) o = absurd (miss (1 ∷ 2 ∷ 3 ∷ []) 0 tt o)
+is-chunky Ngp o = tt
+is-chunky LowFirst o = tt
+is-chunky HighFirst o = tt
+is-chunky Plain o = absurd (miss (1 ∷ 2 ∷ 3 ∷ []) 4 tt o)
+is-chunky (Sprite w h) o = absurd (miss (1 ∷ 2 ∷ 3 ∷ []) 5 tt o)
+
+pub is-high-first : (p : Packing) → T (isChunky p) → OneOf (0 ∷ 3 ∷ 4 ∷ 5 ∷ []) (tagOf the-type p) → p ≡ HighFirst
+is-high-first (Planar g d) t o = absurd t
+is-high-first Ngp t o = absurd (miss (0 ∷ 3 ∷ 4 ∷ 5 ∷ []) 1 tt o)
+is-high-first LowFirst t o = absurd (miss (0 ∷ 3 ∷ 4 ∷ 5 ∷ []) 2 tt o)
+is-high-first HighFirst t o = refl
+is-high-first Plain t o = absurd t
+is-high-first (Sprite w h) t o = absurd t
+
+-- ---- planes
 
 -- a word of planes is the same at each depth that has it
 pub planar-words-are : (g d : ℕ) → T (isPacking (Planar g d)) → (xs ws : List ℕ) (b w : ℕ) → WordsOf xs 8 ws → b < d → w ≡ wordFrom (planar g 8 8 8 .bytes) ws b → HasWord (element (planar g d 8 8 .bytes) xs) b w

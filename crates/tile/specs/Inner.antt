@@ -1,7 +1,7 @@
 -- What the functions that pack and unpack a known packing ask, and what they compute on the way.
 -- Assumes nothing.
 use mathlib.Core.Path.{_≡_}
-use mathlib.Core.Bool.{Bool, true, false, cond, _&&_}
+use mathlib.Core.Bool.{Bool, true, false, _&&_}
 use mathlib.Core.List.{List, [], _∷_}
 use Prim.Native.Nat.{ℕ, zero, suc, _+_, _-_, _*_, _/_, _%_, _^_, _≤_, _<_}
 use lib.Bits.{bitAnd, bitOr}
@@ -10,10 +10,10 @@ use lib.ListN.{length, getD}
 use Rattle.words.specs.Eights.{byteIn}
 use Rattle.mode.specs.Table.{oneOf}
 use Rattle.tile.specs.Bits.{bitOf, fromBits}
-use Rattle.tile.specs.Packings.{layoutIn, lowFirst, highFirst}
+use Rattle.tile.specs.Packings.{layoutIn}
 use Rattle.tile.specs.declared.Packing.{Packing}
 use Rattle.tile.specs.declared.Packing.the-variants.{Planar, Ngp, LowFirst, HighFirst, Plain, Sprite}
-use Rattle.tile.specs.Layout.{Side, Layout, spread}
+use Rattle.tile.specs.Layout.{Side, spread}
 
 -- How many pixels and bytes a packing has; and the bytes of its pixels, and back.
 abbrev pub pixelCount : Packing → ℕ
@@ -72,9 +72,14 @@ pub record Planes (g d : ℕ) : Type 0 where
   pub pairs : g ≡ 2 → d % 2 ≡ 0
   pub fours : g ≡ 4 → d % 4 ≡ 0
 
--- Nibbles, the first pixel in the high one or in the low one.
-abbrev pub nibbles : Bool → Layout
-nibbles high = cond high (highFirst 8 8) (lowFirst 8 8)
+-- The packings whose pixels stand one after the other, each with its bits together, in less than a byte.
+abbrev pub isChunky : Packing → Bool
+isChunky (Planar g d) = false
+isChunky Ngp = true
+isChunky LowFirst = true
+isChunky HighFirst = true
+isChunky Plain = false
+isChunky (Sprite w h) = false
 
 -- ---- words of eight bytes, the first at the bottom
 

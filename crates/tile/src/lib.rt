@@ -14,8 +14,8 @@ ghost use Rattle.words.specs.Eights.{wide, bytesIn};
 ghost use Rattle.words.specs.Loops.{each, some};
 ghost use Rattle.mode.specs.Table.{oneOf};
 ghost use Rattle.tile.specs.Layout.{element, spread};
-ghost use Rattle.tile.specs.Packings.{planar, ngp, lowFirst, highFirst, sprite};
-ghost use Rattle.tile.specs.Inner.{pixelCount, byteCount, packedIn, unpackedIn, isPacking, Packs, Unpacks, PacksWhole, UnpacksWhole, Group, nibbles, Small, WordsOf, CellOf, WordsIn, Columns, wordFrom, WordsFrom, strands, cell, cellByte, rowByte, half, crossed, reversedBytes, gathered};
+ghost use Rattle.tile.specs.Packings.{planar, ngp, lowFirst, highFirst, sprite, layoutIn};
+ghost use Rattle.tile.specs.Inner.{pixelCount, byteCount, packedIn, unpackedIn, isPacking, Packs, Unpacks, PacksWhole, UnpacksWhole, Group, isChunky, Small, WordsOf, CellOf, WordsIn, Columns, wordFrom, WordsFrom, strands, cell, cellByte, rowByte, half, crossed, reversedBytes, gathered};
 ghost use Rattle.tile.specs.Tile.{pairs, fours, gbaPacking, wscPacking, packingOf, isNative, tooLarge, tileSays, packSays, unpackSays, packed, unpacked};
 
 // How the bits of a tile's pixels stand in its bytes.
@@ -222,18 +222,6 @@ fn ngp_word(ws: &[u64; 8], b: usize) -> u64
     d0 | (d1 << 16) | (d2 << 32) | (((c3 << 8) | (c3 >> 32)) << 48)
 }
 
-fn put_ngp(tile: &[u8], out: &mut [u8], at: usize)
-    requires { ⌜ PacksWhole Packing.Ngp (now tile) (now out) at ⌝ }
-    ensures { λ _. ⌜ now (out .exit) ≡ sets (now (out .entry)) at (spread (ngp 8 8 .bytes) (now (tile .entry))) ⌝ }
-{
-    let ws = words_of(tile, 8);
-    let mut b = 0;
-    while b < 2 {
-        words::put_bytes(out, at + b * 8, ngp_word(&ws, b));
-        b += 1;
-    }
-}
-
 // Word b of a tile of nibbles: the low four bits of the pixels of two rows, 0 and 1, joined as in ngp.
 fn low_first_word(ws: &[u64; 8], b: usize) -> u64
     requires { ⌜ Small (now ws) × (b < 4) ⌝ }
@@ -263,24 +251,27 @@ fn high_first_word(ws: &[u64; 8], b: usize) -> u64
     ((c0 | (c0 >> 16)) & 0x00000000ffffffff) | ((c1 | (c1 >> 16)) << 32)
 }
 
-fn nibble_word(ws: &[u64; 8], high: bool, b: usize) -> u64
-    requires { ⌜ Small (now ws) × (b < 4) ⌝ }
-    ensures { λ r. ⌜ r ≡ wordFrom (nibbles high .bytes) (now (ws .entry)) b ⌝ }
+fn chunky_word(ws: &[u64; 8], p: Packing, b: usize) -> u64
+    requires { ⌜ Small (now ws) × T (isChunky p) × (b * 8 < byteCount p) ⌝ }
+    ensures { λ r. ⌜ r ≡ wordFrom (layoutIn p .bytes) (now (ws .entry)) b ⌝ }
 {
-    if high {
-        return high_first_word(ws, b);
+    match p {
+        Packing::Ngp => ngp_word(ws, b),
+        Packing::LowFirst => low_first_word(ws, b),
+        _ => high_first_word(ws, b),
     }
-    low_first_word(ws, b)
 }
 
-fn put_nibbles(tile: &[u8], high: bool, out: &mut [u8], at: usize)
-    requires { ⌜ (length (now tile) ≡ 64) × (at + 32 ≤ length (now out)) ⌝ }
-    ensures { λ _. ⌜ now (out .exit) ≡ sets (now (out .entry)) at (spread (nibbles high .bytes) (now (tile .entry))) ⌝ }
+// The bytes of a tile whose pixels stand one after the other, each with its bits together.
+fn put_chunky(p: Packing, tile: &[u8], out: &mut [u8], at: usize)
+    requires { ⌜ T (isChunky p) × PacksWhole p (now tile) (now out) at ⌝ }
+    ensures { λ _. ⌜ now (out .exit) ≡ sets (now (out .entry)) at (packedIn p (now (tile .entry))) ⌝ }
 {
     let ws = words_of(tile, 8);
+    let n = byte_count(p) / 8;
     let mut b = 0;
-    while b < 4 {
-        words::put_bytes(out, at + b * 8, nibble_word(&ws, high, b));
+    while b < n {
+        words::put_bytes(out, at + b * 8, chunky_word(&ws, p, b));
         b += 1;
     }
 }
@@ -357,11 +348,9 @@ pub fn put_tile(p: Packing, pixels: &[u8], from: usize, out: &mut [u8], at: usiz
     let tile = &pixels[from..end];
     match p {
         Packing::Planar { group, depth } => put_planes(tile, group, depth, out, at),
-        Packing::Ngp => put_ngp(tile, out, at),
-        Packing::LowFirst => put_nibbles(tile, false, out, at),
-        Packing::HighFirst => put_nibbles(tile, true, out, at),
         Packing::Plain => put_plain(tile, out, at),
         Packing::Sprite { width, height } => put_sprite(tile, width, height, out, at),
+        _ => put_chunky(p, tile, out, at),
     }
 }
 
@@ -449,18 +438,6 @@ fn ngp_row(ws: &[u64; 8], r: usize) -> u64
     ((z >> 2) | (z << 8)) & 0x0303030303030303
 }
 
-fn put_ngp_rows(bytes: &[u8], out: &mut [u8], at: usize)
-    requires { ⌜ UnpacksWhole Packing.Ngp (now bytes) (now out) at ⌝ }
-    ensures { λ _. ⌜ now (out .exit) ≡ sets (now (out .entry)) at (spread (ngp 8 8 .pixels) (now (bytes .entry))) ⌝ }
-{
-    let ws = words_of(bytes, 2);
-    let mut r = 0;
-    while r < 8 {
-        words::put_bytes(out, at + r * 8, ngp_row(&ws, r));
-        r += 1;
-    }
-}
-
 // Row r of a tile of nibbles.
 fn low_first_row(ws: &[u64; 8], r: usize) -> u64
     requires { ⌜ Small (now ws) × (r < 8) ⌝ }
@@ -484,24 +461,25 @@ fn high_first_row(ws: &[u64; 8], r: usize) -> u64
     ((z >> 4) | (z << 8)) & 0x0f0f0f0f0f0f0f0f
 }
 
-fn nibble_row(ws: &[u64; 8], high: bool, r: usize) -> u64
-    requires { ⌜ Small (now ws) × (r < 8) ⌝ }
-    ensures { λ w. ⌜ w ≡ wordFrom (nibbles high .pixels) (now (ws .entry)) r ⌝ }
+fn chunky_row(ws: &[u64; 8], p: Packing, r: usize) -> u64
+    requires { ⌜ Small (now ws) × T (isChunky p) × (r < 8) ⌝ }
+    ensures { λ w. ⌜ w ≡ wordFrom (layoutIn p .pixels) (now (ws .entry)) r ⌝ }
 {
-    if high {
-        return high_first_row(ws, r);
+    match p {
+        Packing::Ngp => ngp_row(ws, r),
+        Packing::LowFirst => low_first_row(ws, r),
+        _ => high_first_row(ws, r),
     }
-    low_first_row(ws, r)
 }
 
-fn put_nibble_rows(bytes: &[u8], high: bool, out: &mut [u8], at: usize)
-    requires { ⌜ (length (now bytes) ≡ 32) × (at + 64 ≤ length (now out)) ⌝ }
-    ensures { λ _. ⌜ now (out .exit) ≡ sets (now (out .entry)) at (spread (nibbles high .pixels) (now (bytes .entry))) ⌝ }
+fn put_chunky_rows(p: Packing, bytes: &[u8], out: &mut [u8], at: usize)
+    requires { ⌜ T (isChunky p) × UnpacksWhole p (now bytes) (now out) at ⌝ }
+    ensures { λ _. ⌜ now (out .exit) ≡ sets (now (out .entry)) at (unpackedIn p (now (bytes .entry))) ⌝ }
 {
-    let ws = words_of(bytes, 4);
+    let ws = words_of(bytes, byte_count(p) / 8);
     let mut r = 0;
     while r < 8 {
-        words::put_bytes(out, at + r * 8, nibble_row(&ws, high, r));
+        words::put_bytes(out, at + r * 8, chunky_row(&ws, p, r));
         r += 1;
     }
 }
@@ -565,11 +543,9 @@ pub fn put_pixels(p: Packing, bytes: &[u8], from: usize, out: &mut [u8], at: usi
     let tile = &bytes[from..end];
     match p {
         Packing::Planar { group, depth } => put_plane_rows(tile, group, depth, out, at),
-        Packing::Ngp => put_ngp_rows(tile, out, at),
-        Packing::LowFirst => put_nibble_rows(tile, false, out, at),
-        Packing::HighFirst => put_nibble_rows(tile, true, out, at),
         Packing::Plain => put_plain(tile, out, at),
         Packing::Sprite { width, height } => put_sprite_rows(tile, width, height, out, at),
+        _ => put_chunky_rows(p, tile, out, at),
     }
 }
 
