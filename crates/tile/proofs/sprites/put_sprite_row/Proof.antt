@@ -1,106 +1,144 @@
 -- Each turn stores the row of a cell.
 use mathlib.Core.Path.{_≡_, ap, _∙_}
-use mathlib.Core.List.{[], _∷_}
-use Prim.Native.Nat.{ℕ, _+_, _-_, _*_, _/_, _≤_}
+use mathlib.Core.List.{List, [], _∷_}
+use Prim.Native.Nat.{ℕ, _+_, _-_, _*_, _/_, _≤_, _<_}
 use native.Mathlib.Omega.{arith}
-use native.Mathlib.Nat.{add-zero}
-use lib.ListN.{length}
+use lib.ListN.{length, getD}
 use lib.Seq.{sets, length-sets}
 use borrow.Author.Needs.{needs}
+use Rattle.words.specs.Eights.{bytesIn}
 use Rattle.words.specs.Loops.{each}
 use Rattle.words.proofs.Filling.{Filled, filled-none}
 use Rattle.tile.specs.Layout.{element}
 use Rattle.tile.specs.Packings.{sprite}
-use Rattle.words.specs.Eights.{bytesIn}
+use Rattle.tile.specs.Inner.{wordFrom, HasWord, half}
 use Rattle.tile.proofs.Filling.{run, words-next, words-stored}
 use Rattle.tile.proofs.Columns.{half-pixel}
-use Rattle.tile.proofs.Packings.{sized-of, rowAt, planes-inside}
+use Rattle.tile.proofs.Packings.{Sized, sized-of, rowAt, planes-inside}
 use Rattle.tile.proofs.Packed.{sprite-pixel}
 use Rattle.tile.proofs.sprites.put_sprite_row.Statement.{statement}
 use Rattle.tile.proofs.sprites.put_sprite_row.Tie as tie
 
+-- pixel k of row y
+abbrev pixel : List ℕ → ℕ → ℕ → ℕ → ℕ → ℕ
+pixel bytes width height y k = element (sprite width height .pixels) bytes (y * width + k)
+
 abbrev Inv-loop : tie.InvT-loop
-Inv-loop bytes width height y out₀ at column row n x₀ out x = (x ≤ n) × Filled (run (λ k. element (sprite width height .pixels) bytes (y * width + k))) out₀ at (x * 2) out
+Inv-loop bytes width height y out₀ at column row n x₀ out x = (x ≤ n) × Filled (run (pixel bytes width height y)) out₀ at (x * 2) out
 
 abbrev μ-loop : tie.MeasureT-loop
 μ-loop bytes width height y out₀ at column row n x₀ out x = n - x
 
+size : (s : tie.Start Inv-loop μ-loop) → Sized (s .args .width) (s .args .height)
+size s = sized-of (s .args .width) (s .args .height) (s .pre .0)
+
+abbrev pixels : tie.Start Inv-loop μ-loop → ℕ → ℕ
+pixels s = pixel (s .args .bytes .now) (s .args .width) (s .args .height) (s .args .y)
+
+-- a turn, in the cell of column x
+module _ (c : tie.In-loop Inv-loop μ-loop) where
+  abbrev start : tie.Start Inv-loop μ-loop
+  start = c .before .before .before .before
+
+  abbrev x : ℕ
+  x = c .before .loop .x
+
+  abbrev place : ℕ
+  place = rowAt (start .args .height) (start .args .y) x
+
+  inside : place + 97 < start .args .width * start .args .height * 4 / 8
+  inside = planes-inside (start .args .width) (start .args .height) (start .args .y) x (start .pre .0) (start .pre .2) (omega arith)
+
+module _ (c : tie.After-row-word Inv-loop μ-loop) where
+  abbrev turn : tie.In-loop Inv-loop μ-loop
+  turn = c .before
+
+  -- the word of half e has its pixels
+  half-is : (e w : ℕ) → e < 2 → w ≡ wordFrom (half e) (c .row-word .result ∷ []) 0 → HasWord (pixels (start turn)) (x turn * 2 + e) w
+  half-is e w le is m lm =
+      let a = start turn .args in
+      let small : (i : ℕ) → getD (a .bytes .now) i 0 < 256 = λ i. turn .before .before .before .shared-slice-known .given i .fits in
+      half-pixel (a .bytes .now) (place turn) e (c .row-word .result) w m small le (c .row-word .ensures .0) is lm
+      ∙ sprite-pixel (a .width) (a .height) (a .y) (x turn) e m (a .bytes .now) (omega arith) le lm
+
 mul-column : tie.Need-mul-column Inv-loop μ-loop
-mul-column c = let s = c .before .before in omega (arith, s .pre .2, sized-of (s .args .width) (s .args .height) (s .pre .0) .tall)
+mul-column c = let s = c .before .before in omega (arith, s .pre .2, size s .tall)
 
 mul-row : tie.Need-mul-row Inv-loop μ-loop
-mul-row c = let s = c .before .before in omega (arith, s .pre .2, sized-of (s .args .width) (s .args .height) (s .pre .0) .tall)
+mul-row c = let s = c .before .before in omega (arith, s .pre .2, size s .tall)
 
 add-row : tie.Need-add-row Inv-loop μ-loop
-add-row c = let s = c .before .before in omega (arith, s .pre .2, sized-of (s .args .width) (s .args .height) (s .pre .0) .tall)
+add-row c = let s = c .before .before in omega (arith, s .pre .2, size s .tall)
 
 loop-holds : tie.Need-loop-holds Inv-loop μ-loop
 loop-holds c = (search needs, filled-none _ _ _)
 
 mul-row-word : tie.Need-mul-row-word Inv-loop μ-loop
-mul-row-word c =
-    let s = c .before .before .before .before in
-    let a = s .args in
-    omega (arith, planes-inside (a .width) (a .height) (a .y) (c .before .loop .x) (s .pre .0) (s .pre .2) (omega arith), sized-of (a .width) (a .height) (s .pre .0) .few, s .pre .1)
+mul-row-word c = omega (arith, inside c, size (start c) .few)
 
 add-row-word : tie.Need-add-row-word Inv-loop μ-loop
-add-row-word c =
-    let s = c .before .before .before .before in
-    let a = s .args in
-    omega (arith, planes-inside (a .width) (a .height) (a .y) (c .before .loop .x) (s .pre .0) (s .pre .2) (omega arith), sized-of (a .width) (a .height) (s .pre .0) .few, s .pre .1)
+add-row-word c = omega (arith, inside c, size (start c) .few)
 
 row-word-requires : tie.Need-row-word-requires Inv-loop μ-loop
-row-word-requires c κs =
-    let s = c .before .before .before .before in
-    let a = s .args in
-    omega (arith, planes-inside (a .width) (a .height) (a .y) (c .before .loop .x) (s .pre .0) (s .pre .2) (omega arith), sized-of (a .width) (a .height) (s .pre .0) .few, s .pre .1)
+row-word-requires c κs = omega (arith, inside c, start c .pre .1)
 
 mul-put-bytes : tie.Need-mul-put-bytes Inv-loop μ-loop
-mul-put-bytes c = let s = c .before .before .before .before .before .before in omega (arith, s .pre .3)
+mul-put-bytes c = omega (arith, start (c .before .before) .pre .3)
 
 add-put-bytes : tie.Need-add-put-bytes Inv-loop μ-loop
-add-put-bytes c = let s = c .before .before .before .before .before .before in omega (arith, s .pre .3)
+add-put-bytes c = omega (arith, start (c .before .before) .pre .3)
 
 half-word-requires : tie.Need-half-word-requires Inv-loop μ-loop
 half-word-requires c κs = (c .before .row-word .ensures .1, omega arith)
 
 put-bytes-requires : tie.Need-put-bytes-requires Inv-loop μ-loop
-put-bytes-requires c κs = omega (arith, c .before .before .before .before .loop .inv .1 .long, c .before .before .before .before .before .before .before .pre .3)
+put-bytes-requires c κs = omega (arith, c .before .before .before .before .loop .inv .1 .long, start (c .before .before .before) .pre .3)
+
+-- the second half, after the first was stored
+module _ (c : tie.After-put-bytes-arg2 Inv-loop μ-loop) where
+  abbrev first : tie.After-put-bytes Inv-loop μ-loop
+  first = c .before .before .before
+
+  abbrev read : tie.After-row-word Inv-loop μ-loop
+  read = first .before .before .before
+
+  space : start (turn read) .args .at + start (turn read) .args .width ≤ length (first .before .before .before .before .before .loop .out)
+  space = omega (arith, first .before .before .before .before .before .loop .inv .1 .long, start (turn read) .pre .3)
 
 mul-put-bytes-2 : tie.Need-mul-put-bytes-2 Inv-loop μ-loop
-mul-put-bytes-2 c = let s = c .before .before .before .before .before .before .before .before .before .before .before in omega (arith, s .pre .3)
+mul-put-bytes-2 c = omega (arith, start (turn (read c)) .pre .3)
 
 add-put-bytes-2 : tie.Need-add-put-bytes-2 Inv-loop μ-loop
-add-put-bytes-2 c = let s = c .before .before .before .before .before .before .before .before .before .before .before in omega (arith, s .pre .3)
+add-put-bytes-2 c = omega (arith, start (turn (read c)) .pre .3)
 
 add-put-bytes-3 : tie.Need-add-put-bytes-3 Inv-loop μ-loop
-add-put-bytes-3 c = let s = c .before .before .before .before .before .before .before .before .before .before .before in omega (arith, s .pre .3)
+add-put-bytes-3 c = omega (arith, start (turn (read c)) .pre .3)
 
 half-word-requires-2 : tie.Need-half-word-requires-2 Inv-loop μ-loop
-half-word-requires-2 c κs = (c .before .before .before .before .before .before .row-word .ensures .1, omega arith)
+half-word-requires-2 c κs = (read c .row-word .ensures .1, omega arith)
 
 put-bytes-requires-2 : tie.Need-put-bytes-requires-2 Inv-loop μ-loop
 put-bytes-requires-2 c κs =
-    let s = c .before .before .before .before .before .before .before .before .before .before .before .before in
-    let l = c .before .before .before .before .before .before .before .before .before .loop in
-    omega (arith, ap length (c .before .before .before .before .put-bytes .ensures) ∙ length-sets (l .out) (s .args .at + l .x * 16) (bytesIn (c .before .before .before .before .before .half-word .result)), l .inv .1 .long, s .pre .3)
+    let f = first (c .before) in
+    let l = f .before .before .before .before .before .loop in
+    let at = start (turn (read (c .before))) .args .at in
+    let same = ap length (f .put-bytes .ensures) ∙ length-sets (l .out) (at + l .x * 16) (bytesIn (f .before .half-word .result)) in
+    omega (arith, same, space (c .before))
 
 loop-less : tie.Need-loop-less Inv-loop μ-loop
 loop-less c = search needs
 
 loop-again : tie.Need-loop-again Inv-loop μ-loop
 loop-again c =
-    let a = c .before .before .before .before .before .before .before .before .before .before .before .before .before .before .before .args in
-    let l = c .before .before .before .before .before .before .before .before .before .before .before .before .loop in
-    let w = c .before .before .before .before .before .before .before .before .before .before .row-word in
-    let u = c .before .before .before .before .before .before .before .before .half-word in
+    let f = first (c .before .before .before .before) in
+    let r = read (c .before .before .before .before) in
+    let l = r .before .before .loop in
+    let u = f .before .half-word in
     let v = c .before .before .before .half-word2 in (
       omega arith,
-      words-next (λ k. element (sprite (a .width) (a .height) .pixels) (a .bytes .now) (a .y * a .width + k)) (u .result) (v .result) (l .x) (l .inv .1)
-          (c .before .before .before .before .before .before .before .put-bytes .ensures)
-          (λ m k. half-pixel (a .bytes .now) (rowAt (a .height) (a .y) (l .x)) 0 (w .result) (u .result) m (λ i. c .before .before .before .before .before .before .before .before .before .before .before .before .before .before .shared-slice-known .given i .fits) (omega arith) (w .ensures .0) (u .ensures) k ∙ sprite-pixel (a .width) (a .height) (a .y) (l .x) 0 m (a .bytes .now) (omega arith) (omega arith) k ∙ ap (λ (b : ℕ). element (sprite (a .width) (a .height) .pixels) (a .bytes .now) (a .y * a .width + (b * 8 + m))) (add-zero (l .x * 2)))
-          (c .before .before .put-bytes2 .ensures)
-          (λ m k. half-pixel (a .bytes .now) (rowAt (a .height) (a .y) (l .x)) 1 (w .result) (v .result) m (λ i. c .before .before .before .before .before .before .before .before .before .before .before .before .before .before .shared-slice-known .given i .fits) (omega arith) (w .ensures .0) (v .ensures) k ∙ sprite-pixel (a .width) (a .height) (a .y) (l .x) 1 m (a .bytes .now) (omega arith) (omega arith) k),
+      words-next (pixels (start (turn r))) (u .result) (v .result) (l .x) (l .inv .1)
+          (f .put-bytes .ensures) (half-is r 0 (u .result) (omega arith) (u .ensures))
+          (c .before .before .put-bytes2 .ensures) (half-is r 1 (v .result) (omega arith) (v .ensures)),
     )
 
 same-length : tie.Need-same-length Inv-loop μ-loop
@@ -110,9 +148,9 @@ returns : tie.Need-returns Inv-loop μ-loop
 returns c =
     let s = c .before .before .before .before in
     let a = s .args in
-    let whole : a .width / 16 * 2 * 8 ≡ a .width = omega (arith, sized-of (a .width) (a .height) (s .pre .0) .sixteens) in
-    words-stored (λ k. element (sprite (a .width) (a .height) .pixels) (a .bytes .now) (a .y * a .width + k)) (a .width / 16 * 2) (c .before .loop .inv .1) (omega arith)
-    ∙ ap (λ (n : ℕ). sets (a .out .now) (a .at) (each n (λ k. element (sprite (a .width) (a .height) .pixels) (a .bytes .now) (a .y * a .width + k) ∷ []))) whole
+    let whole : a .width / 16 * 2 * 8 ≡ a .width = omega (arith, size s .sixteens) in
+    words-stored (pixels s) (a .width / 16 * 2) (c .before .loop .inv .1) (omega arith)
+    ∙ ap (λ (n : ℕ). sets (a .out .now) (a .at) (each n (λ k. pixels s k ∷ []))) whole
 
 pub put-sprite-row-spec : {M : Type 1} → statement M
 put-sprite-row-spec =
