@@ -8,7 +8,10 @@ use Rattle.tile.proofs.sprites.half_word.Statement.{statement}
 use Rattle.tile.proofs.sprites.half_word.Tie as tie
 
 returns : tie.Need-returns
-returns c = let s = c .before in ap (λ (x : ℕ). bitAnd (x / 2 ^ (s .args .h * 4)) 0x0f0f0f0f0f0f0f0f) (c .cross .ensures) ∙ half-is (s .args .w) (s .args .h) (s .pre .0) (s .pre .1)
+returns c =
+    let s = c .before in
+    ap (λ (x : ℕ). bitAnd (x / 2 ^ (s .args .h * 4)) 0x0f0f0f0f0f0f0f0f) (c .cross .ensures)
+    ∙ half-is (s .args .w) (s .args .h) (s .pre .0) (s .pre .1)
 
 pub half-word-spec : {M : Type 1} → statement M
 half-word-spec =

@@ -35,18 +35,20 @@ loop-less c = search needs
 
 loop-again : tie.Need-loop-again Inv-loop μ-loop
 loop-again c =
-    let s = c .before .before .before .before .before .before .before .before .before .before .before in
-    let a = s .args in
+    let a = c .before .before .before .before .before .before .before .before .before .before .before .args in
     let l = c .before .before .before .before .before .before .before .loop in
     let ws = c .before .before .before .before .before .before .before .before .cell-words in
     let w = c .before .before .before .cell-word in
-    (omega arith, word-next (cellByte (a .tile .now) (a .from) (a .width)) (w .result) (l .inv .1) (c .before .before .put-bytes .ensures) (cell-word-is (a .tile .now) (ws .result) (a .from) (a .width) (l .b) (w .result) (ws .ensures) (omega arith) (w .ensures)))
+    let is = cell-word-is (a .tile .now) (ws .result) (a .from) (a .width) (l .b) (w .result) (ws .ensures) (omega arith) (w .ensures) in
+    (omega arith, word-next (cellByte (a .tile .now) (a .from) (a .width)) (w .result) (l .inv .1) (c .before .before .put-bytes .ensures) is)
 
 same-length : tie.Need-same-length Inv-loop μ-loop
 same-length c = c .before .loop .inv .1 .long
 
 returns : tie.Need-returns Inv-loop μ-loop
-returns c = let a = c .before .before .before .before .before .args in words-stored (cellByte (a .tile .now) (a .from) (a .width)) 16 (c .before .loop .inv .1) (omega arith)
+returns c =
+    let a = c .before .before .before .before .before .args in
+    words-stored (cellByte (a .tile .now) (a .from) (a .width)) 16 (c .before .loop .inv .1) (omega arith)
 
 pub put-cell-spec : {M : Type 1} → statement M
 put-cell-spec =

@@ -15,39 +15,50 @@ use Rattle.tile.proofs.Filling.{spread-is}
 use Rattle.tile.proofs.sprites.put_sprite_rows.Statement.{statement}
 use Rattle.tile.proofs.sprites.put_sprite_rows.Tie as tie
 
+-- row y of the pixels
+abbrev row : List ℕ → ℕ → ℕ → ℕ → List ℕ
+row bytes width height y = each width (λ x. element (sprite width height .pixels) bytes (y * width + x) ∷ [])
+
 abbrev Inv-loop : tie.InvT-loop
-Inv-loop bytes width height out₀ at y₀ out y = (y ≤ height) × Filled (λ i. each width (λ x. element (sprite width height .pixels) bytes (i * width + x) ∷ [])) out₀ at y out
+Inv-loop bytes width height out₀ at y₀ out y = (y ≤ height) × Filled (row bytes width height) out₀ at y out
 
 abbrev μ-loop : tie.MeasureT-loop
 μ-loop bytes width height out₀ at y₀ out y = height - y
 
--- a row that is above row h ends before it
-row-inside : (y w h : ℕ) → y < h → y * w + w ≤ w * h
-row-inside y w h l = omega (arith, mul-le-mul-right w l, suc-mul y w, mul-comm w h)
+-- a turn: row y ends before the last does
+module _ (c : tie.In-loop Inv-loop μ-loop) where
+  abbrev start : tie.Start Inv-loop μ-loop
+  start = c .before .before .before .before
+
+  inside : c .before .loop .y * start .args .width + start .args .width ≤ start .args .width * start .args .height
+  inside =
+      let y = c .before .loop .y in
+      let w = start .args .width in
+      omega (arith, mul-le-mul-right w (c .loop-test .taken), suc-mul y w, mul-comm w (start .args .height))
 
 loop-holds : tie.Need-loop-holds Inv-loop μ-loop
 loop-holds c = (search needs, filled-none _ _ _)
 
 mul-put-sprite-row : tie.Need-mul-put-sprite-row Inv-loop μ-loop
-mul-put-sprite-row c = let s = c .before .before .before .before .before in omega (arith, row-inside (c .before .before .loop .y) (s .args .width) (s .args .height) (omega arith), s .pre .space)
+mul-put-sprite-row c = omega (arith, inside (c .before), start (c .before) .pre .space)
 
 add-put-sprite-row : tie.Need-add-put-sprite-row Inv-loop μ-loop
-add-put-sprite-row c = let s = c .before .before .before .before .before in omega (arith, row-inside (c .before .before .loop .y) (s .args .width) (s .args .height) (omega arith), s .pre .space)
+add-put-sprite-row c = omega (arith, inside (c .before), start (c .before) .pre .space)
 
 put-sprite-row-requires : tie.Need-put-sprite-row-requires Inv-loop μ-loop
 put-sprite-row-requires c κs =
-    let s = c .before .before .before .before .before in
-    let l = c .before .before .loop in
-    (s .pre .sound, s .pre .whole, omega arith, omega (arith, row-inside (l .y) (s .args .width) (s .args .height) (omega arith), s .pre .space, l .inv .1 .long))
+    let s = start (c .before) in
+    (s .pre .sound, s .pre .whole, omega arith, omega (arith, inside (c .before), s .pre .space, c .before .before .loop .inv .1 .long))
 
 loop-less : tie.Need-loop-less Inv-loop μ-loop
 loop-less c = search needs
 
 loop-again : tie.Need-loop-again Inv-loop μ-loop
 loop-again c =
-    let a = c .before .before .before .before .before .before .before .before .args in
-    let l = c .before .before .before .before .before .loop in
-    (omega arith, filled-more (a .width) (λ j. length-ones (a .width) (λ x. element (sprite (a .width) (a .height) .pixels) (a .bytes .now) (j * a .width + x))) (l .inv .1) (c .before .before .put-sprite-row .ensures))
+    let a = start (c .before .before .before .before) .args in
+    let pixel = element (sprite (a .width) (a .height) .pixels) (a .bytes .now) in
+    let filled = c .before .before .before .before .before .loop .inv .1 in
+    (omega arith, filled-more (a .width) (λ y. length-ones (a .width) (λ x. pixel (y * a .width + x))) filled (c .before .before .put-sprite-row .ensures))
 
 same-length : tie.Need-same-length Inv-loop μ-loop
 same-length c = c .before .loop .inv .1 .long
@@ -56,9 +67,10 @@ returns : tie.Need-returns Inv-loop μ-loop
 returns c =
     let a = c .before .before .before .before .args in
     let side = sprite (a .width) (a .height) .pixels in
+    let size = mul-comm (a .height) (a .width) in
     filled-all (a .height) (c .before .loop .inv .1) (omega arith)
     ∙ ap (λ (l : List ℕ). sets (a .out .now) (a .at) l)
-    (each-each (a .height) (a .width) (λ k. element side (a .bytes .now) k ∷ []) ∙ spread-is side (a .bytes .now) (a .height * a .width) (mul-comm (a .height) (a .width)))
+    (each-each (a .height) (a .width) (λ k. element side (a .bytes .now) k ∷ []) ∙ spread-is side (a .bytes .now) (a .height * a .width) size)
 
 pub put-sprite-rows-spec : {M : Type 1} → statement M
 put-sprite-rows-spec =
