@@ -16,14 +16,14 @@ of-width : (m w h : ℕ) (r b : Bool) → m ≡ pce-sprite → r ≡ oneOf w (16
 of-width m w h r b e f g = sym (ap (λ (n : ℕ). isNative n w h) e ∙ ap (λ (t : Bool). t && oneOf h (16 ∷ 32 ∷ 64 ∷ [])) (sym f ∙ g))
 
 returns : tie.Need-returns
-returns c =
-    let a = c .before .before .before .before .args in
-    of-width (a .m .0) (a .width) (a .height) _ _ (c .before .before .if1 .taken) (c .before .is-sprite-width .ensures) (not-true _ (c .if2 .taken))
+returns c = of-width _ _ _ _ _ (c .before .before .if1 .taken) (c .before .is-sprite-width .ensures) (not-true _ (c .if2 .taken))
 
 returns-2 : tie.Need-returns-2
 returns-2 c =
     let a = c .before .before .before .before .before .args in
-    c .is-sprite-height .ensures ∙ of-width (a .m .0) (a .width) (a .height) _ _ (c .before .before .before .if1 .taken) (c .before .before .is-sprite-width .ensures) (not-false _ (c .before .if2 .left))
+    let wide = c .before .before .is-sprite-width .ensures in
+    c .is-sprite-height .ensures
+    ∙ of-width (a .m .0) (a .width) (a .height) _ _ (c .before .before .before .if1 .taken) wide (not-false _ (c .before .if2 .left))
 
 returns-3 : tie.Need-returns-3
 returns-3 c = rw (ne-eqb _ pce-sprite (c .before .if1 .left), ne-eqb _ 8 (c .if3 .taken))

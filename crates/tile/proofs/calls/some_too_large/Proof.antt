@@ -25,7 +25,8 @@ abbrev μ-loop : tie.MeasureT-loop
 returns : tie.Need-returns Inv-loop μ-loop
 returns c =
     let a = c .before .before .args in
-    sym (all-small (a .count) (a .depth) (a .pixels .now) (λ i l. subst (λ (d : ℕ). getD (a .pixels .now) i 0 < 2 ^ d) (sym (c .if1 .taken)) (omega (arith, c .before .shared-slice-known .given i))))
+    sym (all-small (a .count) (a .depth) (a .pixels .now)
+    (λ i l. subst (λ (d : ℕ). getD (a .pixels .now) i 0 < 2 ^ d) (sym (c .if1 .taken)) (omega (arith, c .before .shared-slice-known .given i))))
 
 loop-holds : tie.Need-loop-holds Inv-loop μ-loop
 loop-holds c = let d = c .before .before .args .depth in (omega arith, lt-leb (2 ^ d) 0 (pow-pos d))

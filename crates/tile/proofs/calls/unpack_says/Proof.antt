@@ -10,16 +10,14 @@ use Rattle.tile.proofs.calls.unpack_says.Tie as tie
 
 -- a tile that the mode has
 module _ (c : tie.Else1) where
-  allowed : tileSays (c .before .before .args .mode) (c .before .before .args .depth) (c .before .before .args .width) (c .before .before .args .height) ≡ 0
+  allowed : let a = c .before .before .args in tileSays (a .mode) (a .depth) (a .width) (a .height) ≡ 0
   allowed = sym (c .before .tile-says .ensures) ∙ c .if1 .left
 
-  fits : Fitting (c .before .before .args .mode) (c .before .before .args .depth) (c .before .before .args .width) (c .before .before .args .height)
-  fits = fitting (native-of (c .before .before .args .mode) (c .before .before .args .depth) (c .before .before .args .width) (c .before .before .args .height) allowed)
+  fits : let a = c .before .before .args in Fitting (a .mode) (a .depth) (a .width) (a .height)
+  fits = fitting (native-of _ _ _ _ allowed)
 
 returns : tie.Need-returns
-returns c =
-    let a = c .before .before .args in
-    unpack-first (a .mode) (a .depth) (a .width) (a .height) (a .len) (a .space) _ (c .before .tile-says .ensures) (c .if1 .taken)
+returns c = unpack-first _ _ _ _ _ _ _ (c .before .tile-says .ensures) (c .if1 .taken)
 
 mul-size : tie.Need-mul-size
 mul-size c = omega (arith, fits c .few)
@@ -31,22 +29,16 @@ cast-if2 : tie.Need-cast-if2
 cast-if2 c = omega (arith, fits c .small)
 
 returns-2 : tie.Need-returns-2
-returns-2 c =
-    let a = c .before .before .before .args in
-    unpack-7 (a .mode) (a .depth) (a .width) (a .height) (a .len) (a .space) (allowed (c .before)) (c .if2 .taken)
+returns-2 c = unpack-7 _ _ _ _ _ _ (allowed (c .before)) (c .if2 .taken)
 
 cast-if3 : tie.Need-cast-if3
 cast-if3 c = omega (arith, fits (c .before) .few)
 
 returns-3 : tie.Need-returns-3
-returns-3 c =
-    let a = c .before .before .before .before .args in
-    unpack-11 (a .mode) (a .depth) (a .width) (a .height) (a .len) (a .space) (allowed (c .before .before)) (c .before .if2 .left) (c .if3 .taken)
+returns-3 c = unpack-11 _ _ _ _ _ _ (allowed (c .before .before)) (c .before .if2 .left) (c .if3 .taken)
 
 returns-4 : tie.Need-returns-4
-returns-4 c =
-    let a = c .before .before .before .before .args in
-    unpack-0 (a .mode) (a .depth) (a .width) (a .height) (a .len) (a .space) (allowed (c .before .before)) (c .before .if2 .left) (c .if3 .left)
+returns-4 c = unpack-0 _ _ _ _ _ _ (allowed (c .before .before)) (c .before .if2 .left) (c .if3 .left)
 
 pub unpack-says-spec : {M : Type 1} → statement M
 unpack-says-spec =
