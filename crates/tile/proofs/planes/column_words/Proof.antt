@@ -1,24 +1,22 @@
 -- Each turn reads a word and turns it.
 use mathlib.Core.Path.{_≡_, ap, _∙_, subst}
-use mathlib.Core.Bool.{false}
 use Prim.Native.Nat.{ℕ, _-_, _*_, _≤_}
 use native.Mathlib.Omega.{arith}
 use borrow.Author.Needs.{needs}
-use Rattle.words.specs.Eights.{wordAt}
 use Rattle.tile.specs.Inner.{crossed, reversedBytes}
 use Rattle.tile.proofs.Filling.{Starts, starts-none, starts-more}
-use Rattle.tile.proofs.Columns.{columns-read}
+use Rattle.tile.proofs.Columns.{turned, columns-read}
 use Rattle.tile.proofs.planes.column_words.Statement.{statement}
 use Rattle.tile.proofs.planes.column_words.Tie as tie
 
 abbrev Inv-loop : tie.InvT-loop
-Inv-loop bytes n ws₀ i₀ ws i = (i ≤ n) × Starts 8 (λ (k v : ℕ). v ≡ reversedBytes (crossed (wordAt false bytes (k * 8)))) i ws
+Inv-loop bytes n ws₀ i₀ ws i = (i ≤ n) × Starts 8 (turned bytes) i ws
 
 abbrev μ-loop : tie.MeasureT-loop
 μ-loop bytes n ws₀ i₀ ws i = n - i
 
 loop-holds : tie.Need-loop-holds Inv-loop μ-loop
-loop-holds c = let a = c .before .args in (search needs, starts-none (λ (k v : ℕ). v ≡ reversedBytes (crossed (wordAt false (a .bytes .now) (k * 8)))) _ tt)
+loop-holds c = (search needs, starts-none (turned (c .before .args .bytes .now)) _ tt)
 
 word-at-requires : tie.Need-word-at-requires Inv-loop μ-loop
 word-at-requires c κs = let h = c .before .before .before .pre .inside in omega arith
@@ -34,14 +32,16 @@ loop-again c =
     let l = c .before .before .before .before .loop in
     let s = c .before .before .before .before .before .before in
     let few = s .pre .few in
-    (omega arith, starts-more (λ (k v : ℕ). v ≡ reversedBytes (crossed (wordAt false (s .args .bytes .now) (k * 8)))) (l .i) (c .reverse-bytes .result) (l .ws) (l .inv .1) (omega arith) (c .reverse-bytes .ensures ∙ ap reversedBytes (c .before .cross .ensures ∙ ap crossed (c .before .before .word-at .ensures))))
+    let is = c .reverse-bytes .ensures ∙ ap reversedBytes (c .before .cross .ensures ∙ ap crossed (c .before .before .word-at .ensures)) in
+    (omega arith, starts-more (turned (s .args .bytes .now)) (l .i) (c .reverse-bytes .result) (l .ws) (l .inv .1) (omega arith) is)
 
 returns : tie.Need-returns Inv-loop μ-loop
 returns c =
     let s = c .before .before .before in
     let l = c .before .loop in
     let all : l .i ≡ s .args .n = omega arith in
-    columns-read (s .args .bytes .now) (λ i. c .before .before .shared-slice-known .given i .fits) (s .pre) (subst (λ (n : ℕ). Starts 8 (λ (k v : ℕ). v ≡ reversedBytes (crossed (wordAt false (s .args .bytes .now) (k * 8)))) n (l .ws)) all (l .inv .1))
+    columns-read (s .args .bytes .now) (λ i. c .before .before .shared-slice-known .given i .fits) (s .pre)
+    (subst (λ (n : ℕ). Starts 8 (turned (s .args .bytes .now)) n (l .ws)) all (l .inv .1))
 
 pub column-words-spec : {M : Type 1} → statement M
 column-words-spec =

@@ -1,23 +1,21 @@
 -- Each turn makes a word.
-use mathlib.Core.Path.{_≡_}
 use Prim.Native.Nat.{ℕ, _-_, _≤_}
 use native.Mathlib.Omega.{arith}
 use borrow.Author.Needs.{needs}
 use Rattle.tile.specs.Packings.{planar}
 use Rattle.tile.specs.Inner.{wordFrom}
-use Rattle.tile.proofs.Wires.{part}
 use Rattle.tile.proofs.Filling.{Starts, starts-none, starts-more}
 use Rattle.tile.proofs.planes.planar_words.Statement.{statement}
 use Rattle.tile.proofs.planes.planar_words.Tie as tie
 
 abbrev Inv-loop : tie.InvT-loop
-Inv-loop ws group n part₀ b₀ part b = (b ≤ n) × Starts 8 (λ (k v : ℕ). v ≡ wordFrom (planar (group) 8 8 8 .bytes) (ws) k) b part
+Inv-loop ws group n part₀ b₀ part b = (b ≤ n) × Starts 8 (wordFrom (planar group 8 8 8 .bytes) ws) b part
 
 abbrev μ-loop : tie.MeasureT-loop
 μ-loop ws group n part₀ b₀ part b = n - b
 
 loop-holds : tie.Need-loop-holds Inv-loop μ-loop
-loop-holds c = let a = c .args in (search needs, starts-none (λ (k v : ℕ). v ≡ wordFrom (planar (a .group) 8 8 8 .bytes) (a .ws .now) k) _ tt)
+loop-holds c = let a = c .args in (search needs, starts-none (wordFrom (planar (a .group) 8 8 8 .bytes) (a .ws .now)) _ tt)
 
 array-write-part : tie.Need-array-write-part Inv-loop μ-loop
 array-write-part c = let h = c .before .before .before .pre .2 in omega arith
@@ -29,9 +27,9 @@ loop-again : tie.Need-loop-again Inv-loop μ-loop
 loop-again c =
     let l = c .before .before .loop in
     let s = c .before .before .before in
-    let a = s .args in
     let few = s .pre .2 in
-    (omega arith, starts-more (λ (k v : ℕ). v ≡ wordFrom (planar (a .group) 8 8 8 .bytes) (a .ws .now) k) (l .b) (c .planar-word .result) (l .part) (l .inv .1) (omega arith) (c .planar-word .ensures))
+    let word = wordFrom (planar (s .args .group) 8 8 8 .bytes) (s .args .ws .now) in
+    (omega arith, starts-more word (l .b) (c .planar-word .result) (l .part) (l .inv .1) (omega arith) (c .planar-word .ensures))
 
 returns : tie.Need-returns Inv-loop μ-loop
 returns c = λ i k. c .before .loop .inv .1 .are i (omega arith)

@@ -12,12 +12,12 @@ use Rattle.tile.proofs.Sides.{cell-read}
 use Rattle.tile.proofs.sprites.cell_words.Statement.{statement}
 use Rattle.tile.proofs.sprites.cell_words.Tie as tie
 
--- number i of the words that are read
-abbrev Read : List ℕ → ℕ → ℕ → ℕ → ℕ → Type 0
-Read tile from width i v = v ≡ wordAt false tile (from + i / 2 * width + i % 2 * 8)
+-- word i of the cell
+abbrev word : List ℕ → ℕ → ℕ → ℕ → ℕ
+word tile from width i = wordAt false tile (from + i / 2 * width + i % 2 * 8)
 
 abbrev Inv-loop : tie.InvT-loop
-Inv-loop tile from width ws₀ i₀ ws i = (i ≤ 32) × Starts 32 (Read tile from width) i ws
+Inv-loop tile from width ws₀ i₀ ws i = (i ≤ 32) × Starts 32 (word tile from width) i ws
 
 abbrev μ-loop : tie.MeasureT-loop
 μ-loop tile from width ws₀ i₀ ws i = 32 - i
@@ -31,7 +31,7 @@ module _ (c : tie.In-loop Inv-loop μ-loop) where
   inside = mul-le-mul-right (start .args .width) (omega arith)
 
 loop-holds : tie.Need-loop-holds Inv-loop μ-loop
-loop-holds c = let a = c .before .args in (search needs, starts-none (Read (a .tile .now) (a .from) (a .width)) _ tt)
+loop-holds c = let a = c .before .args in (search needs, starts-none (word (a .tile .now) (a .from) (a .width)) _ tt)
 
 mul-word-at : tie.Need-mul-word-at Inv-loop μ-loop
 mul-word-at c = omega (arith, inside c)
@@ -52,8 +52,7 @@ loop-again : tie.Need-loop-again Inv-loop μ-loop
 loop-again c =
     let l = c .before .before .loop in
     let a = c .before .before .before .before .args in
-    let reads = Read (a .tile .now) (a .from) (a .width) in
-    (omega arith, starts-more reads (l .i) (c .word-at .result) (l .ws) (l .inv .1) (omega arith) (c .word-at .ensures))
+    (omega arith, starts-more (word (a .tile .now) (a .from) (a .width)) (l .i) (c .word-at .result) (l .ws) (l .inv .1) (omega arith) (c .word-at .ensures))
 
 returns : tie.Need-returns Inv-loop μ-loop
 returns c =
@@ -61,7 +60,7 @@ returns c =
     let l = c .before .loop in
     let all : l .i ≡ 32 = omega arith in
     cell-read (a .tile .now) (λ i. c .before .before .shared-slice-known .given i .fits) (a .from) (a .width)
-    (subst (λ (n : ℕ). Starts 32 (Read (a .tile .now) (a .from) (a .width)) n (l .ws)) all (l .inv .1))
+    (subst (λ (n : ℕ). Starts 32 (word (a .tile .now) (a .from) (a .width)) n (l .ws)) all (l .inv .1))
 
 pub cell-words-spec : {M : Type 1} → statement M
 cell-words-spec =
