@@ -41,7 +41,9 @@ pub bits-of : (n at v : ℕ) → fromBits n at (λ j. bitOf j v) ≡ v / 2 ^ at 
 unfolding fromBits
 bits-of zero at v = sym (mod-one (v / 2 ^ at))
 bits-of (suc n) at v =
-    let ih : fromBits n (suc at) (λ j. bitOf j v) ≡ v / 2 ^ at / 2 % 2 ^ n = bits-of n (suc at) v ∙ ap (λ (d : ℕ). v / d % 2 ^ n) (pow-suc 2 at) ∙ ap (λ (q : ℕ). q % 2 ^ n) (sym (div-div-eq-div-mul v (2 ^ at) 2)) in
+    let ih : fromBits n (suc at) (λ j. bitOf j v) ≡ v / 2 ^ at / 2 % 2 ^ n =
+    bits-of n (suc at) v ∙ ap (λ (d : ℕ). v / d % 2 ^ n) (pow-suc 2 at)
+    ∙ ap (λ (q : ℕ). q % 2 ^ n) (sym (div-div-eq-div-mul v (2 ^ at) 2)) in
     let split : v / 2 ^ at % (2 ^ n * 2) ≡ (v / 2 ^ at / 2 % 2 ^ n) * 2 + v / 2 ^ at % 2 = mod-mul (v / 2 ^ at) (pow-pos n) (zero-lt-suc 1) in
     rw (pow-suc 2 n) (omega arith)
 

@@ -34,12 +34,14 @@ pub record Fits (l : Layout) (n m : ℕ) : Type 0 where
   pub bytes : l .bytes .count ≤ m * 8
   pub wide : l .bytes .bits ≤ 8
 
-pub word-law : {l : Layout} {n m : ℕ} → Fits l n m → (xs ws : List ℕ) (b w : ℕ) → WordsOf xs n ws → b * 8 + 8 ≤ l .bytes .count → w ≡ wordFrom (l .bytes) ws b → HasWord (element (l .bytes) xs) b w
+pub word-law : {l : Layout} {n m : ℕ} → Fits l n m → (xs ws : List ℕ) (b w : ℕ) → WordsOf xs n ws → b * 8 + 8 ≤ l .bytes .count
+    → w ≡ wordFrom (l .bytes) ws b → HasWord (element (l .bytes) xs) b w
 word-law {l} {n} f xs ws b w =
     has-word (l .bytes) n xs ws b w (f .wide)
     (λ k j lk lj. let r = from-bytes l (f .is) k j lk lj in (lt-of-lt-of-le (r .within) (f .pixels), lt-of-lt-of-le (r .bit-within) (f .deep)))
 
-pub row-law : {l : Layout} {n m : ℕ} → Fits l n m → (bs ws : List ℕ) (r w : ℕ) → WordsOf bs m ws → r * 8 + 8 ≤ l .pixels .count → w ≡ wordFrom (l .pixels) ws r → HasWord (element (l .pixels) bs) r w
+pub row-law : {l : Layout} {n m : ℕ} → Fits l n m → (bs ws : List ℕ) (r w : ℕ) → WordsOf bs m ws → r * 8 + 8 ≤ l .pixels .count
+    → w ≡ wordFrom (l .pixels) ws r → HasWord (element (l .pixels) bs) r w
 row-law {l} {m = m} f bs ws r w =
     has-word (l .pixels) m bs ws r w (f .deep)
     (λ k j lk lj. let t = from-pixels l (f .is) k j lk lj in (lt-of-lt-of-le (t .within) (f .bytes), lt-of-lt-of-le (t .bit-within) (f .wide)))
@@ -90,7 +92,8 @@ is-high-first (Sprite w h) t o = absurd t
 -- ---- planes
 
 -- a word of planes is the same at each depth that has it
-pub planar-words-are : (g d : ℕ) → T (isPacking (Planar g d)) → (xs ws : List ℕ) (b w : ℕ) → WordsOf xs 8 ws → b < d → w ≡ wordFrom (planar g 8 8 8 .bytes) ws b → HasWord (element (planar g d 8 8 .bytes) xs) b w
+pub planar-words-are : (g d : ℕ) → T (isPacking (Planar g d)) → (xs ws : List ℕ) (b w : ℕ) → WordsOf xs 8 ws → b < d
+    → w ≡ wordFrom (planar g 8 8 8 .bytes) ws b → HasWord (element (planar g d 8 8 .bytes) xs) b w
 unfolding wordFrom
 planar-words-are g d t xs ws b w read l e =
     let deep = planes-of g d t .deep in
@@ -125,19 +128,25 @@ sprite-byte w h c k xs l =
     let plane : i % 128 / 32 ≡ k / 32 = omega arith in
     let row : i % 32 / 2 ≡ k % 32 / 2 = omega arith in
     let half : i % 2 ≡ k % 2 = omega arith in
-    bits-same 8 0 (λ j. bitOf (k / 32) (getD xs (cellFrom w h c + k % 32 / 2 * w + (k % 2 * 8 + j)) 0)) (λ j. bitOf (i % 128 / 32) (getD xs ((i / 128 % d * 16 + i % 32 / 2) * w + (i / 128 / d * 16 + i % 2 * 8) + j) 0))
+    let at : ℕ → ℕ → ℕ → ℕ → ℕ = λ c y x j. (c % d * 16 + y) * w + (c / d * 16 + x * 8) + j in
+    bits-same 8 0 (λ j. bitOf (k / 32) (getD xs (cellFrom w h c + k % 32 / 2 * w + (k % 2 * 8 + j)) 0))
+    (λ j. bitOf (i % 128 / 32) (getD xs (at (i / 128) (i % 32 / 2) (i % 2) j) 0))
     (λ j a b. ap₂ (λ (p x : ℕ). bitOf p (getD xs x 0)) (sym plane)
-    (sym (ap (λ (c : ℕ). (c % d * 16 + i % 32 / 2) * w + (c / d * 16 + i % 2 * 8) + j) here ∙ ap₂ (λ (y x : ℕ). (c % d * 16 + y) * w + (c / d * 16 + x * 8) + j) row half ∙ cell-pixel (c % d) (k % 32 / 2) (c / d) w (k % 2 * 8) j)))
+    (sym (ap (λ (c : ℕ). at c (i % 32 / 2) (i % 2) j) here ∙ ap₂ (λ (y x : ℕ). at c y x j) row half
+    ∙ cell-pixel (c % d) (k % 32 / 2) (c / d) w (k % 2 * 8) j)))
 
-pub sprite-cell : (w h c n : ℕ) (xs : List ℕ) → n ≤ 128 → each n (λ k. cellByte xs (cellFrom w h c) w k ∷ []) ≡ each n (λ k. element (sprite w h .bytes) xs (c * 128 + k) ∷ [])
+pub sprite-cell : (w h c n : ℕ) (xs : List ℕ) → n ≤ 128
+    → each n (λ k. cellByte xs (cellFrom w h c) w k ∷ []) ≡ each n (λ k. element (sprite w h .bytes) xs (c * 128 + k) ∷ [])
 sprite-cell w h c n xs l =
-    each-eq n (λ k. cellByte xs (cellFrom w h c) w k ∷ []) (λ k. element (sprite w h .bytes) xs (c * 128 + k) ∷ []) (λ k lk. ap (λ (x : ℕ). x ∷ []) (sprite-byte w h c k xs (omega arith)))
+    each-eq n (λ k. cellByte xs (cellFrom w h c) w k ∷ []) (λ k. element (sprite w h .bytes) xs (c * 128 + k) ∷ [])
+    (λ k lk. ap (λ (x : ℕ). x ∷ []) (sprite-byte w h c k xs (omega arith)))
 
 -- the pixels of half e of cell x in row y
 plane-place : (x h y p e : ℕ) → x * (h * 128) + (y / 16 * 128 + y % 16 * 2) + e + p * 32 ≡ (x * h + y / 16) * 128 + p * 32 + y % 16 * 2 + e
 plane-place x h y p e = omega arith
 
-pub sprite-pixel : (w h y x e m : ℕ) (bs : List ℕ) → x * 16 + 16 ≤ w → e < 2 → m < 8 → fromBits 4 0 (λ p. bitOf m (getD bs (rowAt h y x + e + p * 32) 0)) ≡ element (sprite w h .pixels) bs (y * w + ((x * 2 + e) * 8 + m))
+pub sprite-pixel : (w h y x e m : ℕ) (bs : List ℕ) → x * 16 + 16 ≤ w → e < 2 → m < 8
+    → fromBits 4 0 (λ p. bitOf m (getD bs (rowAt h y x + e + p * 32) 0)) ≡ element (sprite w h .pixels) bs (y * w + ((x * 2 + e) * 8 + m))
 sprite-pixel w h y x e m bs l le lm =
     let j = (x * 2 + e) * 8 + m in
     let i = y * w + j in
@@ -146,7 +155,8 @@ sprite-pixel w h y x e m bs l le lm =
     let cell : j / 16 ≡ x = omega arith in
     let half : j % 16 / 8 ≡ e = omega arith in
     let bit : j % 8 ≡ m = omega arith in
-    bits-same 4 0 (λ p. bitOf m (getD bs (rowAt h y x + e + p * 32) 0)) (λ p. bitOf (i % w % 8) (getD bs (spriteByte h (i % w) (i / w) p) 0))
+    bits-same 4 0 (λ p. bitOf m (getD bs (rowAt h y x + e + p * 32) 0))
+    (λ p. bitOf (i % w % 8) (getD bs (spriteByte h (i % w) (i / w) p) 0))
     (λ p a b. sym (ap₂ (λ (x y : ℕ). bitOf (x % 8) (getD bs (spriteByte h x y p) 0)) column row
     ∙ ap₂ (λ (b k : ℕ). bitOf b (getD bs k 0)) bit
     (ap₂ (λ (c e : ℕ). (c * (h / 16) + y / 16) * 128 + p * 32 + y % 16 * 2 + e) cell half ∙ sym (plane-place x (h / 16) y p e))))
@@ -159,10 +169,12 @@ plain-byte v l = omega (arith, bits-of 8 0 v)
 pub all-of : (xs : List ℕ) (n : ℕ) → length xs ≡ n → each n (λ k. getD xs k 0 ∷ []) ≡ xs
 all-of xs n len = ap (λ (n : ℕ). each n (λ k. getD xs k 0 ∷ [])) (sym len) ∙ each-of xs
 
-plain-each : (xs : List ℕ) → length xs ≡ 64 → ((i : ℕ) → i < 64 → getD xs i 0 < 256) → xs ≡ each 64 (λ k. fromBits 8 0 (λ j. bitOf j (getD xs k 0)) ∷ [])
+plain-each : (xs : List ℕ) → length xs ≡ 64 → ((i : ℕ) → i < 64 → getD xs i 0 < 256)
+    → xs ≡ each 64 (λ k. fromBits 8 0 (λ j. bitOf j (getD xs k 0)) ∷ [])
 plain-each xs len small =
     sym (all-of xs 64 len)
-    ∙ each-eq 64 (λ k. getD xs k 0 ∷ []) (λ k. fromBits 8 0 (λ j. bitOf j (getD xs k 0)) ∷ []) (λ k l. ap (λ (x : ℕ). x ∷ []) (plain-byte (getD xs k 0) (small k l)))
+    ∙ each-eq 64 (λ k. getD xs k 0 ∷ []) (λ k. fromBits 8 0 (λ j. bitOf j (getD xs k 0)) ∷ [])
+    (λ k l. ap (λ (x : ℕ). x ∷ []) (plain-byte (getD xs k 0) (small k l)))
 
 pub plain-bytes : (xs : List ℕ) → length xs ≡ 64 → ((i : ℕ) → i < 64 → getD xs i 0 < 256) → xs ≡ spread (plain 8 8 .bytes) xs
 plain-bytes xs len small = plain-each xs len small ∙ spread-is (plain 8 8 .bytes) xs 64 (omega arith)

@@ -16,18 +16,26 @@ use Rattle.tile.specs.Packings.{planar, ngp, lowFirst, highFirst}
 use Rattle.tile.specs.Inner.{Small, wordFrom, column, half, strands, cell, crossed, reversedBytes, gathered}
 use Rattle.tile.proofs.Wiring.{Wire, given, down, up, keep, join, value, pick, merge, origin, isFrom, suits, isWiredIn, wired-in}
 
+-- for bit j of word b of a side: whether it has it, and from which word and which bit of it
+abbrev live : Side → ℕ → Bool
+live s j = ltb (j % 8) (s .bits)
+
+abbrev wordOf : Side → ℕ → ℕ → ℕ
+wordOf s b j = s .from (b * 8 + j / 8) (j % 8) / 8
+
+abbrev bitIn : Side → ℕ → ℕ → ℕ
+bitIn s b j = s .from (b * 8 + j / 8) (j % 8) % 8 * 8 + s .place (b * 8 + j / 8) (j % 8)
+
 -- the wire of each of n words is as the side says
 unfoldable pub isSide : Side → ℕ → (ℕ → Wire) → Bool
-isSide s n w =
-    all n
-    (λ b. isWiredIn 64 (w b) (λ j. ltb (j % 8) (s .bits)) (λ j. s .from (b * 8 + j / 8) (j % 8) / 8)
-    (λ j. s .from (b * 8 + j / 8) (j % 8) % 8 * 8 + s .place (b * 8 + j / 8) (j % 8)))
+isSide s n w = all n (λ b. isWiredIn 64 (w b) (live s) (wordOf s b) (bitIn s b))
 
-pub word-is : (s : Side) (n : ℕ) (w : ℕ → Wire) → T (isSide s n w) → (ws : List ℕ) → Small ws → (b : ℕ) → b < n → value (λ i. getD ws i 0) (w b) ≡ wordFrom s ws b
+pub word-is : (s : Side) (n : ℕ) (w : ℕ → Wire) → T (isSide s n w) → (ws : List ℕ) → Small ws → (b : ℕ) → b < n
+    → value (λ i. getD ws i 0) (w b) ≡ wordFrom s ws b
 unfolding isSide wordFrom
 word-is s n w t ws h b l =
-    wired-in 64 (w b) (λ j. ltb (j % 8) (s .bits)) (λ j. s .from (b * 8 + j / 8) (j % 8) / 8) (λ j. s .from (b * 8 + j / 8) (j % 8) % 8 * 8 + s .place (b * 8 + j / 8) (j % 8))
-    (all-at n (λ b. isWiredIn 64 (w b) (λ j. ltb (j % 8) (s .bits)) (λ j. s .from (b * 8 + j / 8) (j % 8) / 8) (λ j. s .from (b * 8 + j / 8) (j % 8) % 8 * 8 + s .place (b * 8 + j / 8) (j % 8))) t b l)
+    wired-in 64 (w b) (live s) (wordOf s b) (bitIn s b)
+    (all-at n (λ b. isWiredIn 64 (w b) (live s) (wordOf s b) (bitIn s b)) t b l)
     (omega arith) (λ i. getD ws i 0) h
 
 -- ---- turning
@@ -36,7 +44,9 @@ unfoldable pub swap : ℕ → ℕ → ℕ → Wire → Wire
 swap c m s w = join (join (keep w c) (up (keep w m) s)) (keep (down w s) m)
 
 unfoldable pub cross : Wire → Wire
-cross w = swap 0xf0f0f0f00f0f0f0f 0x00000000f0f0f0f0 28 (swap 0xcccc3333cccc3333 0x0000cccc0000cccc 14 (swap 0xaa55aa55aa55aa55 0x00aa00aa00aa00aa 7 w))
+cross w =
+    swap 0xf0f0f0f00f0f0f0f 0x00000000f0f0f0f0 28
+    (swap 0xcccc3333cccc3333 0x0000cccc0000cccc 14 (swap 0xaa55aa55aa55aa55 0x00aa00aa00aa00aa 7 w))
 
 unfoldable pub trade : ℕ → ℕ → Wire → Wire
 trade m s w = join (up (keep w m) s) (keep (down w s) m)
@@ -183,7 +193,9 @@ unfoldable pub highBytes : ℕ → Wire
 highBytes i = bytes4 (close 4 8 0x00ff00ff00ff00ff (keep (given i) 0x0f0f0f0f0f0f0f0f))
 
 unfoldable pub ngpBytes : ℕ → Wire
-ngpBytes i = let c : Wire = close 4 16 0x000000ff000000ff (close 2 8 0x000f000f000f000f (keep (given i) 0x0303030303030303)) in join (up c 8) (down c 32)
+ngpBytes i =
+    let c : Wire = close 4 16 0x000000ff000000ff (close 2 8 0x000f000f000f000f (keep (given i) 0x0303030303030303)) in
+    join (up c 8) (down c 32)
 
 unfoldable pub lows : ℕ → Wire
 lows b = join (keep (lowBytes (b * 2)) 0x00000000ffffffff) (up (lowBytes (b * 2 + 1)) 32)
@@ -194,7 +206,8 @@ highs b = join (keep (highBytes (b * 2)) 0x00000000ffffffff) (up (highBytes (b *
 unfoldable pub ngps : ℕ → Wire
 ngps b =
     let m : ℕ = 0x000000000000ffff in
-    join (join (join (keep (ngpBytes (b * 4)) m) (up (keep (ngpBytes (b * 4 + 1)) m) 16)) (up (keep (ngpBytes (b * 4 + 2)) m) 32)) (up (ngpBytes (b * 4 + 3)) 48)
+    let low : Wire = join (keep (ngpBytes (b * 4)) m) (up (keep (ngpBytes (b * 4 + 1)) m) 16) in
+    join (join low (up (keep (ngpBytes (b * 4 + 2)) m) 32)) (up (ngpBytes (b * 4 + 3)) 48)
 
 unfoldable pub widenBy : ℕ → ℕ → Wire → Wire
 widenBy s m w = keep (join w (up w s)) m
@@ -216,7 +229,8 @@ highRow r = spreadBy 4 8 0x0f0f0f0f0f0f0f0f (apart r)
 unfoldable pub ngpRow : ℕ → Wire
 ngpRow r =
     let x : Wire = down (given (r / 4)) (r % 4 * 16) in
-    spreadBy 2 8 0x0303030303030303 (spreadBy 4 16 0x000f000f000f000f (keep (join (keep (down x 8) 0x00000000000000ff) (up x 32)) 0x000000ff000000ff))
+    let y : Wire = keep (join (keep (down x 8) 0x00000000000000ff) (up x 32)) 0x000000ff000000ff in
+    spreadBy 2 8 0x0303030303030303 (spreadBy 4 16 0x000f000f000f000f y)
 
 pub lows-are : T (isSide (lowFirst 8 8 .bytes) 4 lows)
 unfolding isSide isWiredIn lows lowBytes bytes4 fold origin pick merge isFrom suits

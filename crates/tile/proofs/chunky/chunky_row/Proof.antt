@@ -24,7 +24,8 @@ returns-3 : tie.Need-returns-3
 returns-3 c =
     let s = c .before .before in
     let a = s .args in
-    c .high-first-row .ensures ∙ ap (λ (p : Packing). wordFrom (layoutIn p .pixels) (a .ws .now) (a .r)) (sym (is-high-first (a .p) (s .pre .1) (c .before .match .keys3)))
+    c .high-first-row .ensures
+    ∙ ap (λ (p : Packing). wordFrom (layoutIn p .pixels) (a .ws .now) (a .r)) (sym (is-high-first (a .p) (s .pre .1) (c .before .match .keys3)))
 
 pub chunky-row-spec : {M : Type 1} → statement M
 chunky-row-spec =

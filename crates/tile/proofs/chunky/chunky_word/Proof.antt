@@ -25,7 +25,8 @@ returns-3 : tie.Need-returns-3
 returns-3 c =
     let s = c .before .before in
     let a = s .args in
-    c .high-first-word .ensures ∙ ap (λ (p : Packing). wordFrom (layoutIn p .bytes) (a .ws .now) (a .b)) (sym (is-high-first (a .p) (s .pre .1) (c .before .match .keys3)))
+    c .high-first-word .ensures
+    ∙ ap (λ (p : Packing). wordFrom (layoutIn p .bytes) (a .ws .now) (a .b)) (sym (is-high-first (a .p) (s .pre .1) (c .before .match .keys3)))
 
 ngp-word-requires : tie.Need-ngp-word-requires
 ngp-word-requires c κs = let s = c .before .before in (s .pre .0, omega (arith, s .pre .2, ap byteCount (c .enum-told .given .1)))

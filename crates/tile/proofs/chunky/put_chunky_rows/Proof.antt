@@ -38,7 +38,9 @@ chunky-row-requires : tie.Need-chunky-row-requires Inv-loop μ-loop
 chunky-row-requires c κs = (c .before .before .before .before .words-of .ensures .small, c .before .before .before .before .before .before .before .before .pre .0, omega arith)
 
 put-bytes-requires : tie.Need-put-bytes-requires Inv-loop μ-loop
-put-bytes-requires c κs = let s = c .before .before .before .before .before .before .before .before .before in omega (arith, c .before .before .before .before .loop .inv .1 .long, s .pre .1 .space, size s .pixels)
+put-bytes-requires c κs =
+    let s = c .before .before .before .before .before .before .before .before .before in
+    omega (arith, c .before .before .before .before .loop .inv .1 .long, s .pre .1 .space, size s .pixels)
 
 loop-less : tie.Need-loop-less Inv-loop μ-loop
 loop-less c = search needs

@@ -25,7 +25,8 @@ loop-less : tie.Need-loop-less Inv-loop μ-loop
 loop-less c = search needs
 
 loop-again : tie.Need-loop-again Inv-loop μ-loop
-loop-again c = (search needs, filled-more 8 (λ j. refl) (c .before .before .before .before .before .loop .inv .1) (c .before .before .put-eight .ensures))
+loop-again c =
+    (search needs, filled-more 8 (λ j. refl) (c .before .before .before .before .before .loop .inv .1) (c .before .before .put-eight .ensures))
 
 same-length : tie.Need-same-length Inv-loop μ-loop
 same-length c = c .before .loop .inv .1 .long
@@ -34,7 +35,8 @@ returns : tie.Need-returns Inv-loop μ-loop
 returns c =
     let s = c .before .before .before .before in
     let a = s .args in
-    words-stored (λ k. getD (a .tile .now) k 0) 8 (c .before .loop .inv .1) (omega arith) ∙ ap (λ (l : List ℕ). sets (a .out .now) (a .at) l) (all-of (a .tile .now) 64 (s .pre .0))
+    words-stored (λ k. getD (a .tile .now) k 0) 8 (c .before .loop .inv .1) (omega arith)
+    ∙ ap (λ (l : List ℕ). sets (a .out .now) (a .at) l) (all-of (a .tile .now) 64 (s .pre .0))
 
 pub put-plain-spec : {M : Type 1} → statement M
 put-plain-spec =

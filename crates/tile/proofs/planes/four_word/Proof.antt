@@ -10,7 +10,8 @@ returns : tie.Need-returns
 unfolding value fours two one part
 returns c =
     let s = c .before .before .before .before in
-    turned-is (planar 4 8 8 8 .bytes) 8 fours fours-are (s .args .ws .now) (s .pre .0) (s .args .b) _ _ (s .pre .1) (c .before .reverse-bytes .ensures) (c .cross .ensures)
+    turned-is (planar 4 8 8 8 .bytes) 8 fours fours-are (s .args .ws .now) (s .pre .0) (s .args .b) _ _ (s .pre .1)
+    (c .before .reverse-bytes .ensures) (c .cross .ensures)
 
 pub four-word-spec : {M : Type 1} → statement M
 four-word-spec =

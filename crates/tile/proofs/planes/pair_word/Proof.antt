@@ -10,7 +10,8 @@ returns : tie.Need-returns
 unfolding value pairs four one part
 returns c =
     let s = c .before .before .before .before .before .before in
-    turned-is (planar 2 8 8 8 .bytes) 8 pairs pairs-are (s .args .ws .now) (s .pre .0) (s .args .b) _ _ (s .pre .1) (c .before .reverse-bytes .ensures) (c .cross .ensures)
+    turned-is (planar 2 8 8 8 .bytes) 8 pairs pairs-are (s .args .ws .now) (s .pre .0) (s .args .b) _ _ (s .pre .1)
+    (c .before .reverse-bytes .ensures) (c .cross .ensures)
 
 pub pair-word-spec : {M : Type 1} → statement M
 pair-word-spec =

@@ -5,6 +5,7 @@ use borrow.Author.Needs.{needs}
 use Rattle.words.proofs.Filling.{Filled, filled-none}
 use Rattle.tile.specs.Layout.{element}
 use Rattle.tile.specs.Packings.{planar}
+use Rattle.tile.specs.Inner.{Planes}
 use Rattle.tile.proofs.Filling.{run, word-next, tile-stored}
 use Rattle.tile.proofs.Columns.{planar-row-is}
 use Rattle.tile.proofs.Packings.{planes-of}
@@ -17,10 +18,13 @@ Inv-loop bytes group depth out₀ at ws r₀ out r = (r ≤ 8) × Filled (run (e
 abbrev μ-loop : tie.MeasureT-loop
 μ-loop bytes group depth out₀ at ws r₀ out r = 8 - r
 
+planes : (s : tie.Start Inv-loop μ-loop) → Planes (s .args .group) (s .args .depth)
+planes s = planes-of (s .args .group) (s .args .depth) (s .pre .sound)
+
 column-words-requires : tie.Need-column-words-requires Inv-loop μ-loop
 column-words-requires c κs =
     let s = c .before .before in
-    let deep = planes-of (s .args .group) (s .args .depth) (s .pre .sound) .deep in
+    let deep = planes s .deep in
     let h = s .pre .whole in
     record { few = deep; inside = omega arith; ends = λ l. omega arith }
 
@@ -31,10 +35,12 @@ add-put-bytes : tie.Need-add-put-bytes Inv-loop μ-loop
 add-put-bytes c = omega (arith, c .before .before .before .before .before .before .pre .space)
 
 planar-row-requires : tie.Need-planar-row-requires Inv-loop μ-loop
-planar-row-requires c κs = let s = c .before .before .before .before .before .before .before in (c .before .before .before .before .column-words .ensures .small, planes-of (s .args .group) (s .args .depth) (s .pre .sound) .group, omega arith)
+planar-row-requires c κs = (c .before .before .before .before .column-words .ensures .small, planes (c .before .before .before .before .before .before .before) .group, omega arith)
 
 put-bytes-requires : tie.Need-put-bytes-requires Inv-loop μ-loop
-put-bytes-requires c κs = omega (arith, c .before .before .before .before .loop .inv .1 .long, c .before .before .before .before .before .before .before .before .pre .space)
+put-bytes-requires c κs =
+    let s = c .before .before .before .before .before .before .before .before in
+    omega (arith, c .before .before .before .before .loop .inv .1 .long, s .pre .space)
 
 loop-less : tie.Need-loop-less Inv-loop μ-loop
 loop-less c = search needs
@@ -46,13 +52,19 @@ loop-again c =
     let l = c .before .before .before .before .before .before .before .loop in
     let ws = c .before .before .before .before .before .before .before .before .column-words in
     let w = c .before .before .before .planar-row in
-    (omega arith, word-next (element (planar (a .group) (a .depth) 8 8 .pixels) (a .bytes .now)) (w .result) (l .inv .1) (c .before .before .put-bytes .ensures) (planar-row-is (a .group) (a .depth) (s .pre .sound) (a .bytes .now) (ws .result) (l .r) (w .result) (ws .ensures) (omega (arith, s .pre .whole)) (omega arith) (w .ensures)))
+    let is =
+    planar-row-is (a .group) (a .depth) (s .pre .sound) (a .bytes .now) (ws .result) (l .r) (w .result) (ws .ensures)
+    (omega (arith, s .pre .whole)) (omega arith) (w .ensures) in
+    let side = planar (a .group) (a .depth) 8 8 .pixels in
+    (omega arith, word-next (element side (a .bytes .now)) (w .result) (l .inv .1) (c .before .before .put-bytes .ensures) is)
 
 same-length : tie.Need-same-length Inv-loop μ-loop
 same-length c = c .before .loop .inv .1 .long
 
 returns : tie.Need-returns Inv-loop μ-loop
-returns c = let a = c .before .before .before .before .before .args in tile-stored (planar (a .group) (a .depth) 8 8 .pixels) (a .bytes .now) 8 (c .before .loop .inv .1) (omega arith) (omega arith)
+returns c =
+    let a = c .before .before .before .before .before .args in
+    tile-stored (planar (a .group) (a .depth) 8 8 .pixels) (a .bytes .now) 8 (c .before .loop .inv .1) (omega arith) (omega arith)
 
 pub put-plane-rows-spec : {M : Type 1} → statement M
 put-plane-rows-spec =

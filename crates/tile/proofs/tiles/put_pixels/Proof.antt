@@ -46,7 +46,8 @@ returns-2 c =
     let t = c .before .before .before .before .enum-told .given in
     let h = unpacks-in Plain (t .1) (part (c .before .before .before .before .before .before)) in
     let end = a .from + n .result - a .from in
-    let small : (i : ℕ) → getD (a .bytes .now) i 0 < 256 = λ i. c .before .before .before .before .before .before .before .before .before .shared-slice-known .given i .fits in
+    let small : (i : ℕ) → getD (a .bytes .now) i 0 < 256 =
+    λ i. c .before .before .before .before .before .before .before .before .before .shared-slice-known .given i .fits in
     c .before .before .put-plain .ensures
     ∙ ap (λ (l : List ℕ). sets (a .out .now) (a .at) l)
     (plain-pixels (take end (drop (a .from) (a .bytes .now))) (h .whole)

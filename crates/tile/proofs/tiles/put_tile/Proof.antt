@@ -46,7 +46,8 @@ returns-2 c =
     let t = c .before .before .before .before .enum-told .given in
     let h = packs-in Plain (t .1) (part (c .before .before .before .before .before .before)) in
     let end = a .from + n .result - a .from in
-    let small : (i : ℕ) → getD (a .pixels .now) i 0 < 256 = λ i. c .before .before .before .before .before .before .before .before .before .shared-slice-known .given i .fits in
+    let small : (i : ℕ) → getD (a .pixels .now) i 0 < 256 =
+    λ i. c .before .before .before .before .before .before .before .before .before .shared-slice-known .given i .fits in
     c .before .before .put-plain .ensures
     ∙ ap (λ (l : List ℕ). sets (a .out .now) (a .at) l)
     (plain-bytes (take end (drop (a .from) (a .pixels .now))) (h .whole)
