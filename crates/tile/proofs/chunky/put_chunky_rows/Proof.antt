@@ -35,12 +35,15 @@ add-put-bytes : tie.Need-add-put-bytes Inv-loop μ-loop
 add-put-bytes c = let s = c .before .before .before .before .before .before .before in omega (arith, s .pre .1 .space, size s .pixels)
 
 chunky-row-requires : tie.Need-chunky-row-requires Inv-loop μ-loop
-chunky-row-requires c κs = (c .before .before .before .before .words-of .ensures .small, c .before .before .before .before .before .before .before .before .pre .0, omega arith)
+chunky-row-requires c κs =
+    let s = c .before .before .before .before .before .before .before .before in
+    (c .before .before .before .before .words-of .ensures .small, s .pre .0, omega arith)
 
 put-bytes-requires : tie.Need-put-bytes-requires Inv-loop μ-loop
 put-bytes-requires c κs =
+    let filled = c .before .before .before .before .loop .inv .1 in
     let s = c .before .before .before .before .before .before .before .before .before in
-    omega (arith, c .before .before .before .before .loop .inv .1 .long, s .pre .1 .space, size s .pixels)
+    omega (arith, filled .long, s .pre .1 .space, size s .pixels)
 
 loop-less : tie.Need-loop-less Inv-loop μ-loop
 loop-less c = search needs

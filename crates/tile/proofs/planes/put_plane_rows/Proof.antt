@@ -1,6 +1,8 @@
 -- Each turn stores a row of the pixels.
-use Prim.Native.Nat.{_-_, _≤_}
+use mathlib.Core.Path.{_≡_}
+use Prim.Native.Nat.{_-_, _*_, _≤_}
 use native.Mathlib.Omega.{arith}
+use lib.ListN.{length}
 use borrow.Author.Needs.{needs}
 use Rattle.words.proofs.Filling.{Filled, filled-none}
 use Rattle.tile.specs.Layout.{element}
@@ -35,12 +37,15 @@ add-put-bytes : tie.Need-add-put-bytes Inv-loop μ-loop
 add-put-bytes c = omega (arith, c .before .before .before .before .before .before .pre .space)
 
 planar-row-requires : tie.Need-planar-row-requires Inv-loop μ-loop
-planar-row-requires c κs = (c .before .before .before .before .column-words .ensures .small, planes (c .before .before .before .before .before .before .before) .group, omega arith)
+planar-row-requires c κs =
+    let s = c .before .before .before .before .before .before .before in
+    (c .before .before .before .before .column-words .ensures .small, planes s .group, omega arith)
 
 put-bytes-requires : tie.Need-put-bytes-requires Inv-loop μ-loop
 put-bytes-requires c κs =
+    let filled = c .before .before .before .before .loop .inv .1 in
     let s = c .before .before .before .before .before .before .before .before in
-    omega (arith, c .before .before .before .before .loop .inv .1 .long, s .pre .space)
+    omega (arith, filled .long, s .pre .space)
 
 loop-less : tie.Need-loop-less Inv-loop μ-loop
 loop-less c = search needs
@@ -52,9 +57,8 @@ loop-again c =
     let l = c .before .before .before .before .before .before .before .loop in
     let ws = c .before .before .before .before .before .before .before .before .column-words in
     let w = c .before .before .before .planar-row in
-    let is =
-    planar-row-is (a .group) (a .depth) (s .pre .sound) (a .bytes .now) (ws .result) (l .r) (w .result) (ws .ensures)
-    (omega (arith, s .pre .whole)) (omega arith) (w .ensures) in
+    let long : length (a .bytes .now) ≡ a .depth * 8 = omega (arith, s .pre .whole) in
+    let is = planar-row-is _ _ (s .pre .sound) (a .bytes .now) (ws .result) (l .r) (w .result) (ws .ensures) long (omega arith) (w .ensures) in
     let side = planar (a .group) (a .depth) 8 8 .pixels in
     (omega arith, word-next (element side (a .bytes .now)) (w .result) (l .inv .1) (c .before .before .put-bytes .ensures) is)
 

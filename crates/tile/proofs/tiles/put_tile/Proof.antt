@@ -1,12 +1,13 @@
 -- Each arm stores what its packing says.
-use mathlib.Core.Path.{refl, ap, _∙_}
+use mathlib.Core.Path.{_≡_, refl, ap, _∙_}
 use mathlib.Core.List.{List}
 use Prim.Native.Nat.{ℕ, _+_, _-_, _<_}
 use native.Mathlib.Omega.{arith}
 use lib.ListN.{getD, take, drop}
 use lib.Seq.{sets}
 use borrow.Author.Needs.{needs}
-use Rattle.tile.specs.Inner.{pixelCount, PacksWhole}
+use Rattle.tile.specs.Inner.{pixelCount, packedIn, PacksWhole}
+use Rattle.tile.specs.declared.Packing.{Packing}
 use Rattle.tile.specs.declared.Packing.the-variants.{Planar, Plain, Sprite}
 use Rattle.tile.proofs.Filling.{part-small}
 use Rattle.tile.proofs.Packings.{packs-in, same-bytes, packs-whole}
@@ -14,10 +15,41 @@ use Rattle.tile.proofs.Packed.{is-chunky, plain-bytes}
 use Rattle.tile.proofs.tiles.put_tile.Statement.{statement}
 use Rattle.tile.proofs.tiles.put_tile.Tie as tie
 
--- the part that is taken is a whole tile
-part : (c : tie.After-tile) → let a = c .before .before .before .before .args in
-    PacksWhole (a .p) (take (a .from + c .before .pixel-count .result - a .from) (drop (a .from) (a .pixels .now))) (a .out .now) (a .at)
-part c = packs-whole (c .before .before .before .before .pre) (c .before .pixel-count .ensures)
+-- the part that is taken
+module _ (c : tie.After-tile) where
+  abbrev start : tie.Start
+  start = c .before .before .before .before
+
+  abbrev p : Packing
+  p = start .args .p
+
+  abbrev whole : List ℕ
+  whole = start .args .pixels .now
+
+  abbrev from : ℕ
+  from = start .args .from
+
+  abbrev size : ℕ
+  size = from + c .before .pixel-count .result - from
+
+  abbrev puts : List ℕ → List ℕ
+  puts l = sets (start .args .out .now) (start .args .at) l
+
+  -- it is a whole tile, and what is stored of it is what is to be stored
+  part : PacksWhole p (take size (drop from whole)) (start .args .out .now) (start .args .at)
+  part = packs-whole (start .pre) (c .before .pixel-count .ensures)
+
+  same : (q : Packing) → p ≡ q → puts (packedIn q (take size (drop from whole))) ≡ puts (packedIn p (take (pixelCount p) (drop from whole)))
+  same q e = same-bytes q e whole (start .args .out .now) (start .args .at) from (c .before .pixel-count .result) (c .before .pixel-count .ensures)
+
+  -- plain bytes are stored as they are
+  plain : p ≡ Plain → take size (drop from whole) ≡ packedIn Plain (take size (drop from whole))
+  plain e =
+      plain-bytes (take size (drop from whole)) (packs-in Plain e part .whole)
+      (λ i l. part-small whole from size i small (omega (arith, c .before .pixel-count .ensures, ap pixelCount e)))
+    where
+      small : (i : ℕ) → getD whole i 0 < 256
+      small i = c .before .before .before .shared-slice-known .given i .fits
 
 put-planes-requires : tie.Need-put-planes-requires
 put-planes-requires c κs = let t = c .before .before .p .given in packs-in (Planar (t .0 .0) (t .0 .1 .0)) (t .1) (part (c .before .before .before .before))
@@ -29,44 +61,26 @@ put-sprite-requires : tie.Need-put-sprite-requires
 put-sprite-requires c κs = let t = c .before .before .p2 .given in packs-in (Sprite (t .0 .0) (t .0 .1 .0)) (t .1) (part (c .before .before .before .before))
 
 put-chunky-requires : tie.Need-put-chunky-requires
-put-chunky-requires c κs = let d = c .before .before in (is-chunky (d .before .before .before .before .args .p) (c .before .match .keys4), part d)
+put-chunky-requires c κs = let d = c .before .before in (is-chunky (p d) (c .before .match .keys4), part d)
 
 returns : tie.Need-returns
 returns c =
-    let n = c .before .before .before .before .before .before .before .before .pixel-count in
-    let a = c .before .before .before .before .before .before .before .before .before .before .before .args in
     let t = c .before .before .before .before .before .p .given in
-    c .before .before .put-planes .ensures
-    ∙ same-bytes (Planar (t .0 .0) (t .0 .1 .0)) (t .1) (a .pixels .now) (a .out .now) (a .at) (a .from) (n .result) (n .ensures)
+    c .before .before .put-planes .ensures ∙ same (c .before .before .before .before .before .before .before) (Planar (t .0 .0) (t .0 .1 .0)) (t .1)
 
 returns-2 : tie.Need-returns-2
 returns-2 c =
-    let n = c .before .before .before .before .before .before .before .pixel-count in
-    let a = c .before .before .before .before .before .before .before .before .before .before .args in
-    let t = c .before .before .before .before .enum-told .given in
-    let h = packs-in Plain (t .1) (part (c .before .before .before .before .before .before)) in
-    let end = a .from + n .result - a .from in
-    let small : (i : ℕ) → getD (a .pixels .now) i 0 < 256 =
-    λ i. c .before .before .before .before .before .before .before .before .before .shared-slice-known .given i .fits in
-    c .before .before .put-plain .ensures
-    ∙ ap (λ (l : List ℕ). sets (a .out .now) (a .at) l)
-    (plain-bytes (take end (drop (a .from) (a .pixels .now))) (h .whole)
-    (λ i l. part-small (a .pixels .now) (a .from) end i small (omega (arith, n .ensures, ap pixelCount (t .1)))))
-    ∙ same-bytes Plain (t .1) (a .pixels .now) (a .out .now) (a .at) (a .from) (n .result) (n .ensures)
+    let d = c .before .before .before .before .before .before in
+    let e = c .before .before .before .before .enum-told .given .1 in
+    c .before .before .put-plain .ensures ∙ ap (puts d) (plain d e) ∙ same d Plain e
 
 returns-3 : tie.Need-returns-3
 returns-3 c =
-    let n = c .before .before .before .before .before .before .before .before .pixel-count in
-    let a = c .before .before .before .before .before .before .before .before .before .before .before .args in
     let t = c .before .before .before .before .before .p2 .given in
-    c .before .before .put-sprite .ensures
-    ∙ same-bytes (Sprite (t .0 .0) (t .0 .1 .0)) (t .1) (a .pixels .now) (a .out .now) (a .at) (a .from) (n .result) (n .ensures)
+    c .before .before .put-sprite .ensures ∙ same (c .before .before .before .before .before .before .before) (Sprite (t .0 .0) (t .0 .1 .0)) (t .1)
 
 returns-4 : tie.Need-returns-4
-returns-4 c =
-    let n = c .before .before .before .before .before .before .pixel-count in
-    let a = c .before .before .before .before .before .before .before .before .before .args in
-    c .before .before .put-chunky .ensures ∙ same-bytes (a .p) refl (a .pixels .now) (a .out .now) (a .at) (a .from) (n .result) (n .ensures)
+returns-4 c = let d = c .before .before .before .before .before in c .before .before .put-chunky .ensures ∙ same d (p d) refl
 
 pub put-tile-spec : {M : Type 1} → statement M
 put-tile-spec =
