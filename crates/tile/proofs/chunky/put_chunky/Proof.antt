@@ -23,6 +23,9 @@ size s = chunky-of (s .args .p) (s .pre .0)
 words-of-requires : tie.Need-words-of-requires Inv-loop μ-loop
 words-of-requires c κs = let s = c .before .before in (omega arith, omega (arith, s .pre .1 .whole, size s .pixels))
 
+byte-count-requires : tie.Need-byte-count-requires Inv-loop μ-loop
+byte-count-requires c κs = c .before .before .before .pre .1 .sound
+
 loop-holds : tie.Need-loop-holds Inv-loop μ-loop
 loop-holds c = (search needs, filled-none _ _ _)
 
@@ -73,7 +76,7 @@ put-chunky-spec =
     Inv-loop
     μ-loop
     words-of-requires
-    (λ c κs. c .before .before .before .pre .1 .sound)
+    byte-count-requires
     loop-holds
     mul-put-bytes
     add-put-bytes

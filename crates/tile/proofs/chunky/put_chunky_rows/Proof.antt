@@ -28,6 +28,9 @@ words-of-requires c κs =
     let s = c .before .before .before in
     (omega (arith, n, size s .few), omega (arith, n, s .pre .1 .whole))
 
+byte-count-requires : tie.Need-byte-count-requires Inv-loop μ-loop
+byte-count-requires c κs = c .before .before .pre .1 .sound
+
 loop-holds : tie.Need-loop-holds Inv-loop μ-loop
 loop-holds c = (search needs, filled-none _ _ _)
 
@@ -75,7 +78,7 @@ put-chunky-rows-spec =
     (tie.spec
     Inv-loop
     μ-loop
-    (λ c κs. c .before .before .pre .1 .sound)
+    byte-count-requires
     words-of-requires
     loop-holds
     (λ c. search needs)
