@@ -1,7 +1,7 @@
 -- The laws of a number by its bits: its bits come back, and so does it.
 -- Assumes nothing.
 use mathlib.Core.Path.{_≡_, refl, sym, ap, ap₂, _∙_}
-use Prim.Native.Nat.{ℕ, zero, suc, _+_, _-_, _*_, _/_, _%_, _^_, _≤_, _<_}
+use Prim.Native.Nat.{ℕ, zero, suc, _+_, _*_, _/_, _%_, _^_, _≤_, _<_}
 use native.Mathlib.Nat.{le-of-suc-le-suc, not-suc-le-zero, zero-lt-suc, add-zero, add-suc, suc-add, zero-add, pow-suc, pow-succ', mod-one, mul-assoc, div-div-eq-div-mul}
 use native.Mathlib.Omega.{arith}
 use lib.Arith.{mod-mul}
@@ -41,7 +41,8 @@ pub bits-of : (n at v : ℕ) → fromBits n at (λ j. bitOf j v) ≡ v / 2 ^ at 
 unfolding fromBits
 bits-of zero at v = sym (mod-one (v / 2 ^ at))
 bits-of (suc n) at v =
-    let ih : fromBits n (suc at) (λ j. bitOf j v) ≡ v / 2 ^ at / 2 % 2 ^ n = bits-of n (suc at) v ∙ ap (λ (d : ℕ). v / d % 2 ^ n) (pow-suc 2 at) ∙ ap (λ (q : ℕ). q % 2 ^ n) (sym (div-div-eq-div-mul v (2 ^ at) 2)) in
+    let half : v / 2 ^ suc at ≡ v / 2 ^ at / 2 = ap (λ (d : ℕ). v / d) (pow-suc 2 at) ∙ sym (div-div-eq-div-mul v (2 ^ at) 2) in
+    let ih : fromBits n (suc at) (λ j. bitOf j v) ≡ v / 2 ^ at / 2 % 2 ^ n = bits-of n (suc at) v ∙ ap (λ (q : ℕ). q % 2 ^ n) half in
     let split : v / 2 ^ at % (2 ^ n * 2) ≡ (v / 2 ^ at / 2 % 2 ^ n) * 2 + v / 2 ^ at % 2 = mod-mul (v / 2 ^ at) (pow-pos n) (zero-lt-suc 1) in
     rw (pow-suc 2 n) (omega arith)
 

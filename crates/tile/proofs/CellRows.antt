@@ -68,25 +68,25 @@ module _ (xs : List ℕ) (small : (i : ℕ) → getD xs i 0 < 256) where
       ∙ pixel-is (from + t / 8 * 8) (t % 8) m (omega arith) lm
       ∙ ap (λ (i : ℕ). fromBits 4 0 (λ p. bitOf m (getD xs (i + p * 32) 0))) there
 
--- ---- word t of cell c is word wordOf among the sprite's, and its turn is c * 32 + t
+-- ---- word t of cell c is this one of the sprite's words; and when a word has its turn, cell by cell
 
-abbrev pub wordOf : ℕ → ℕ → ℕ → ℕ → ℕ
-wordOf w h c t = (c % (h / 16) * 16 + t / 2) * (w / 8) + c / (h / 16) * 2 + t % 2
+abbrev pub spriteWord : ℕ → ℕ → ℕ → ℕ → ℕ
+spriteWord w h c t = (c % (h / 16) * 16 + t / 2) * (w / 8) + c / (h / 16) * 2 + t % 2
 
-abbrev pub turnOf : ℕ → ℕ → ℕ → ℕ
-turnOf w h i = (i % (w / 8) / 2 * (h / 16) + i / (w / 8) / 16) * 32 + (i / (w / 8) % 16 * 2 + i % 2)
+abbrev pub spriteTurn : ℕ → ℕ → ℕ → ℕ
+spriteTurn w h i = (i % (w / 8) / 2 * (h / 16) + i / (w / 8) / 16) * 32 + (i / (w / 8) % 16 * 2 + i % 2)
 
 abbrev pixelTest : ℕ → ℕ → ℕ → ℕ → ℕ → ℕ → Bool
 pixelTest w h c t m p =
-    let i = wordOf w h c t * 8 + m in
+    let i = spriteWord w h c t * 8 + m in
     eqb (c * 128 + t + p * 32) (spriteByte h (i % w) (i / w) p) && eqb m (i % w % 8)
 
 abbrev wordTest : ℕ → ℕ → ℕ → ℕ → Bool
 wordTest w h c t =
-    eqb (cellFrom w h c + t / 2 * w + t % 2 * 8) (wordOf w h c t * 8) && (ltb (wordOf w h c t) (w * h / 8) && all 8 (λ m. all 4 (pixelTest w h c t m)))
+    eqb (cellFrom w h c + t / 2 * w + t % 2 * 8) (spriteWord w h c t * 8) && (ltb (spriteWord w h c t) (w * h / 8) && all 8 (λ m. all 4 (pixelTest w h c t m)))
 
 abbrev turnTest : ℕ → ℕ → ℕ → Bool
-turnTest w h i = ltb (turnOf w h i) (w / 16 * (h / 16) * 32) && eqb i (wordOf w h (turnOf w h i / 32) (turnOf w h i % 32))
+turnTest w h i = ltb (spriteTurn w h i) (w / 16 * (h / 16) * 32) && eqb i (spriteWord w h (spriteTurn w h i / 32) (spriteTurn w h i % 32))
 
 words-at : (w h : ℕ) → T (isPacking (Sprite w h)) → T (all (w / 16 * (h / 16)) (λ c. all 32 (wordTest w h c)))
 words-at = sizes-at (λ (w h : ℕ). all (w / 16 * (h / 16)) (λ c. all 32 (wordTest w h c))) tt
@@ -100,10 +100,10 @@ module _ (w h : ℕ) (sound : T (isPacking (Sprite w h))) where
 
   module _ (c t : ℕ) (lc : c < w / 16 * (h / 16)) (lt : t < 32) where
     abbrev placed : Bool
-    placed = eqb (cellFrom w h c + t / 2 * w + t % 2 * 8) (wordOf w h c t * 8)
+    placed = eqb (cellFrom w h c + t / 2 * w + t % 2 * 8) (spriteWord w h c t * 8)
 
     abbrev there : Bool
-    there = ltb (wordOf w h c t) (w * h / 8)
+    there = ltb (spriteWord w h c t) (w * h / 8)
 
     abbrev pixels : Bool
     pixels = all 8 (λ m. all 4 (pixelTest w h c t m))
@@ -111,16 +111,16 @@ module _ (w h : ℕ) (sound : T (isPacking (Sprite w h))) where
     tested : T (placed && (there && pixels))
     tested = all-at 32 (wordTest w h c) (all-at (w / 16 * (h / 16)) (λ c. all 32 (wordTest w h c)) (words-at w h sound) c lc) t lt
 
-    pub word-place : cellFrom w h c + t / 2 * w + t % 2 * 8 ≡ wordOf w h c t * 8
+    pub word-place : cellFrom w h c + t / 2 * w + t % 2 * 8 ≡ spriteWord w h c t * 8
     word-place = eqb→eq _ _ (both-left placed (there && pixels) tested)
 
-    pub word-inside : wordOf w h c t < w * h / 8
+    pub word-inside : spriteWord w h c t < w * h / 8
     word-inside = ltb→lt _ _ (both-left there pixels (both-right placed (there && pixels) tested))
 
     -- its pixels are those of byte t of each plane of the cell
-    pub cell-word-is : (bs : List ℕ) → ((i : ℕ) → getD bs i 0 < 256) → HasWord (element (sprite w h .pixels) bs) (wordOf w h c t) (getD (cellWords bs (c * 128)) t 0)
+    pub cell-word-is : (bs : List ℕ) → ((i : ℕ) → getD bs i 0 < 256) → HasWord (element (sprite w h .pixels) bs) (spriteWord w h c t) (getD (cellWords bs (c * 128)) t 0)
     cell-word-is bs small m lm =
-        let i = wordOf w h c t * 8 + m in
+        let i = spriteWord w h c t * 8 + m in
         cell-pixel bs small (c * 128) t m lt lm
         ∙ bits-same 4 0 (λ p. bitOf m (getD bs (c * 128 + t + p * 32) 0)) (λ p. bitOf (i % w % 8) (getD bs (spriteByte h (i % w) (i / w) p) 0))
         (λ p a lp.
@@ -131,19 +131,19 @@ module _ (w h : ℕ) (sound : T (isPacking (Sprite w h))) where
 
   module _ (i : ℕ) (li : i < w * h / 8) where
     abbrev soon : Bool
-    soon = ltb (turnOf w h i) (w / 16 * (h / 16) * 32)
+    soon = ltb (spriteTurn w h i) (w / 16 * (h / 16) * 32)
 
     abbrev back : Bool
-    back = eqb i (wordOf w h (turnOf w h i / 32) (turnOf w h i % 32))
+    back = eqb i (spriteWord w h (spriteTurn w h i / 32) (spriteTurn w h i % 32))
 
     turned : T (soon && back)
     turned = all-at (w * h / 8) (turnTest w h) (turns-at w h sound) i li
 
-    pub turn-soon : turnOf w h i < w / 16 * (h / 16) * 32
+    pub turn-soon : spriteTurn w h i < w / 16 * (h / 16) * 32
     turn-soon = ltb→lt _ _ (both-left soon back turned)
 
-    pub turn-its : (c t : ℕ) → t < 32 → turnOf w h i ≡ c * 32 + t → i ≡ wordOf w h c t
+    pub turn-its : (c t : ℕ) → t < 32 → spriteTurn w h i ≡ c * 32 + t → i ≡ spriteWord w h c t
     turn-its c t lt e =
-        let cell : turnOf w h i / 32 ≡ c = omega arith in
-        let word : turnOf w h i % 32 ≡ t = omega arith in
-        eqb→eq _ _ (both-right soon back turned) ∙ ap₂ (wordOf w h) cell word
+        let cell : spriteTurn w h i / 32 ≡ c = omega arith in
+        let word : spriteTurn w h i % 32 ≡ t = omega arith in
+        eqb→eq _ _ (both-right soon back turned) ∙ ap₂ (spriteWord w h) cell word

@@ -45,14 +45,29 @@ columns-bit v x q l lx lq =
 bit-of-none : (p q m : ℕ) → bitOf q (byteIn 0 m) ≡ bitOf p 0
 bit-of-none p q m = rw (zero-div (2 ^ (m * 8)), zero-div (2 ^ q), zero-div (2 ^ p))
 
-pub columns-read : {n : ℕ} {ws : List ℕ} (xs : List ℕ) → ((i : ℕ) → getD xs i 0 < 256) → WordsIn xs n → Starts 8 (λ (i v : ℕ). v ≡ reversedBytes (crossed (wordAt false xs (i * 8)))) n ws → Columns xs ws
-columns-read {n} {ws} xs small h st =
-    record {
-      are = λ k q lk lq. ⊎-elim (λ (no : n - k / 8 ≡ 0). ap (λ (w : ℕ). bitOf q (byteIn w (k % 8))) (st .none (k / 8) (omega arith)) ∙ bit-of-none (7 - k % 8) q (k % 8) ∙ ap (bitOf (7 - k % 8)) (sym (List·getD-eq-default xs 0 (omega (arith, h .ends (omega arith))))))
-          (λ (yes : 0 < n - k / 8). ap (λ (w : ℕ). bitOf q (byteIn w (k % 8))) (st .are (k / 8) (omega arith)) ∙ columns-bit (wordAt false xs (k / 8 * 8)) (k % 8) q (word-small xs small false (k / 8 * 8)) (omega arith) lq ∙ ap (bitOf (7 - k % 8)) (word-byte-at xs small false (k / 8 * 8) q lq))
-          (eq-zero-or-pos (n - k / 8));
-      small = starts-small (λ (i v : ℕ). v ≡ reversedBytes (crossed (wordAt false xs (i * 8)))) (λ i v e. subst (λ (w : ℕ). w < 2 ^ 64) (sym (e ∙ columns-is (wordAt false xs (i * 8)) (word-small xs small false (i * 8)))) (word-lt column (wordAt false xs (i * 8) ∷ []) 0)) st;
-    }
+-- the words of a list, turned
+abbrev pub turned : List ℕ → ℕ → ℕ
+turned xs i = reversedBytes (crossed (wordAt false xs (i * 8)))
+
+module _ (xs : List ℕ) (small : (i : ℕ) → getD xs i 0 < 256) where
+  turned-lt : (i : ℕ) → turned xs i < 2 ^ 64
+  turned-lt i =
+      subst (λ (w : ℕ). w < 2 ^ 64) (sym (columns-is (wordAt false xs (i * 8)) (word-small xs small false (i * 8))))
+      (word-lt column (wordAt false xs (i * 8) ∷ []) 0)
+
+  pub columns-read : {n : ℕ} {ws : List ℕ} → WordsIn xs n → Starts 8 (turned xs) n ws → Columns xs ws
+  columns-read {n} {ws} h st = record { are = column-are; small = starts-small (turned xs) turned-lt st }
+    where
+      column-are : (k q : ℕ) → k < 64 → q < 8 → bitOf q (byteOf ws k) ≡ bitOf (7 - k % 8) (getD xs (k / 8 * 8 + q) 0)
+      column-are k q lk lq =
+          let bit : ℕ → ℕ = λ w. bitOf q (byteIn w (k % 8)) in
+          ⊎-elim (λ (no : n - k / 8 ≡ 0). ap bit (st .none (k / 8) (omega arith))
+          ∙ bit-of-none (7 - k % 8) q (k % 8)
+          ∙ ap (bitOf (7 - k % 8)) (sym (List·getD-eq-default xs 0 (omega (arith, h .ends (omega arith))))))
+          (λ (yes : 0 < n - k / 8). ap bit (st .are (k / 8) (omega arith))
+          ∙ columns-bit (wordAt false xs (k / 8 * 8)) (k % 8) q (word-small xs small false (k / 8 * 8)) (omega arith) lq
+          ∙ ap (bitOf (7 - k % 8)) (word-byte-at xs small false (k / 8 * 8) q lq))
+          (eq-zero-or-pos (n - k / 8))
 
 -- ---- a row out of turned words, over the plane, the group and the depth
 
@@ -76,13 +91,15 @@ strand-place a b x c l = omega arith
 regroup : (q g b c : ℕ) → q * g * 8 + b + c ≡ q * (g * 8) + b + c
 regroup q g b c = omega arith
 
-pub planar-row-is : (g d : ℕ) → T (isPacking (Planar g d)) → (xs ts : List ℕ) (r w : ℕ) → Columns xs ts → length xs ≡ d * 8 → r < 8 → w ≡ wordFrom (strands g) ts r → HasWord (element (planar g d 8 8 .pixels) xs) r w
+pub planar-row-is : (g d : ℕ) → T (isPacking (Planar g d)) → (xs ts : List ℕ) (r w : ℕ) → Columns xs ts
+    → length xs ≡ d * 8 → r < 8 → w ≡ wordFrom (strands g) ts r → HasWord (element (planar g d 8 8 .pixels) xs) r w
 planar-row-is g d t xs ts r w h len lr e m lm =
     let k = r * 8 + m in
     let within = strands-within g (both-left (oneOf g (1 ∷ 2 ∷ 4 ∷ [])) (ltb d 9 && eqb (d % g) 0) t) in
     ap (λ (x : ℕ). byteIn x m) e
     ∙ word-byte (strands g) ts r m (omega arith) (λ j l. within k j (omega arith) l .1) lm
-    ∙ bits-same 8 0 (λ p. bitOf (strands g .place k p) (byteOf ts (strands g .from k p))) (λ p. bitOf (7 - k % 8) (getD xs (p / g * (g * 8) + k / 8 * g + p % g) 0))
+    ∙ bits-same 8 0 (λ p. bitOf (strands g .place k p) (byteOf ts (strands g .from k p)))
+    (λ p. bitOf (7 - k % 8) (getD xs (p / g * (g * 8) + k / 8 * g + p % g) 0))
     (λ p a c. let i = within k p (omega arith) (omega arith) in
     h .are (strands g .from k p) (strands g .place k p) (i .0) (i .1)
     ∙ ap₂ (λ (x y : ℕ). bitOf (7 - x) (getD xs y 0)) (strand-column (p / g * g) (k / 8 * g) (k % 8) (omega arith))

@@ -34,7 +34,8 @@ getD-table (suc n) at (suc i) f l = getD-table n (suc at) i f (le-of-suc-le-suc 
 table-more : (n at : ℕ) (f : ℕ → ℕ) → table (suc n) at f ≡ table n at f ++ f (at + n) ∷ []
 unfolding table
 table-more zero at f = ap (λ (k : ℕ). f k ∷ []) (sym (add-zero at))
-table-more (suc n) at f = ap (λ (t : List ℕ). f at ∷ t) (table-more n (suc at) f ∙ ap (λ (k : ℕ). table n (suc at) f ++ f k ∷ []) (suc-add at n ∙ sym (add-suc at n)))
+table-more (suc n) at f =
+    ap (λ (t : List ℕ). f at ∷ t) (table-more n (suc at) f ∙ ap (λ (k : ℕ). table n (suc at) f ++ f k ∷ []) (suc-add at n ∙ sym (add-suc at n)))
 
 -- and so it is its elements, one after the other, as a loop fills a slice with them
 pub table-each : (n : ℕ) (f : ℕ → ℕ) → table n 0 f ≡ each n (λ k. f k ∷ [])
@@ -51,14 +52,18 @@ run f b = each 8 (λ m. f (b * 8 + m) ∷ [])
 pub run-is : (f : ℕ → ℕ) (b w : ℕ) → HasWord f b w → bytesIn w ≡ run f b
 run-is f b w h = each-eq 8 (λ m. byteIn w m ∷ []) (λ m. f (b * 8 + m) ∷ []) (λ m l. ap (λ (x : ℕ). x ∷ []) (h m l))
 
-pub word-next : (f : ℕ → ℕ) (w : ℕ) {out now then : List ℕ} {at b : ℕ} → Filled (run f) out at b now → then ≡ sets now (at + b * 8) (bytesIn w) → HasWord f b w → Filled (run f) out at (b + 1) then
-word-next f w {now = now} {at = at} {b = b} h e g = filled-more 8 (λ j. refl) h (e ∙ ap (λ (l : List ℕ). sets now (at + b * 8) l) (run-is f b w g))
+pub word-next : (f : ℕ → ℕ) (w : ℕ) {out now then : List ℕ} {at b : ℕ} → Filled (run f) out at b now
+    → then ≡ sets now (at + b * 8) (bytesIn w) → HasWord f b w → Filled (run f) out at (b + 1) then
+word-next f w {now = now} {at = at} {b = b} h e g =
+    filled-more 8 (λ j. refl) h (e ∙ ap (λ (l : List ℕ). sets now (at + b * 8) l) (run-is f b w g))
 
 -- two at a time
-pub words-next : (f : ℕ → ℕ) (v w x : ℕ) {out now mid then : List ℕ} {at : ℕ} → Filled (run f) out at (x * 2) now → mid ≡ sets now (at + x * 16) (bytesIn v) → HasWord f (x * 2) v
+pub words-next : (f : ℕ → ℕ) (v w x : ℕ) {out now mid then : List ℕ} {at : ℕ} → Filled (run f) out at (x * 2) now
+    → mid ≡ sets now (at + x * 16) (bytesIn v) → HasWord f (x * 2 + 0) v
     → then ≡ sets mid (at + x * 16 + 8) (bytesIn w) → HasWord f (x * 2 + 1) w → Filled (run f) out at ((x + 1) * 2) then
 words-next f v w x {out} {now} {mid} {then} {at} h e g i j =
-    let first : Filled (run f) out at (x * 2 + 1) mid = word-next f v h (e ∙ ap (λ (k : ℕ). sets now k (bytesIn v)) (first-place at x)) g in
+    let here = subst (λ (b : ℕ). HasWord f b v) (add-zero (x * 2)) g in
+    let first : Filled (run f) out at (x * 2 + 1) mid = word-next f v h (e ∙ ap (λ (k : ℕ). sets now k (bytesIn v)) (first-place at x)) here in
     let second : Filled (run f) out at (x * 2 + 1 + 1) then = word-next f w first (i ∙ ap (λ (k : ℕ). sets mid k (bytesIn w)) (second-place at x)) j in
     subst (λ (b : ℕ). Filled (run f) out at b then) (next-pair x) second
   where
@@ -71,23 +76,28 @@ words-next f v w x {out} {now} {mid} {then} {at} h e g i j =
     next-pair : (x : ℕ) → x * 2 + 1 + 1 ≡ (x + 1) * 2
     next-pair x = omega arith
 
-pub words-stored : (f : ℕ → ℕ) (n : ℕ) {out now : List ℕ} {at b : ℕ} → Filled (run f) out at b now → b ≡ n → now ≡ sets out at (each (n * 8) (λ k. f k ∷ []))
-words-stored f n {out} {at = at} h e = filled-all n h e ∙ ap (λ (l : List ℕ). sets out at l) (each-each n 8 (λ k. f k ∷ []))
+pub words-stored : (f : ℕ → ℕ) (n : ℕ) {out now : List ℕ} {at b : ℕ} → Filled (run f) out at b now → b ≡ n
+    → now ≡ sets out at (each (n * 8) (λ k. f k ∷ []))
+words-stored f n {out} {at = at} h e =
+    filled-all n h e ∙ ap (λ (l : List ℕ). sets out at l) (each-each n 8 (λ k. f k ∷ []))
 
 pub words-are : (f : ℕ → ℕ) (n : ℕ) (ws : List ℕ) → HasWords f n ws → each n (λ i. bytesIn (getD ws i 0)) ≡ each (n * 8) (λ k. f k ∷ [])
-words-are f n ws h = each-eq n (λ i. bytesIn (getD ws i 0)) (run f) (λ i l. run-is f i (getD ws i 0) (h i l)) ∙ each-each n 8 (λ k. f k ∷ [])
+words-are f n ws h =
+    each-eq n (λ i. bytesIn (getD ws i 0)) (run f) (λ i l. run-is f i (getD ws i 0) (h i l)) ∙ each-each n 8 (λ k. f k ∷ [])
 
 pub spread-is : (s : Side) (xs : List ℕ) (n : ℕ) → n ≡ s .count → each n (λ k. element s xs k ∷ []) ≡ spread s xs
 unfolding spread
 spread-is s xs n e = sym (table-each n (element s xs)) ∙ ap (λ (n : ℕ). table n 0 (element s xs)) e
 
-pub tile-stored : (s : Side) (xs : List ℕ) (n : ℕ) {out now : List ℕ} {at b : ℕ} → Filled (run (element s xs)) out at b now → b ≡ n → n * 8 ≡ s .count → now ≡ sets out at (spread s xs)
-tile-stored s xs n {out} {at = at} h e c = words-stored (element s xs) n h e ∙ ap (λ (l : List ℕ). sets out at l) (spread-is s xs (n * 8) c)
+pub tile-stored : (s : Side) (xs : List ℕ) (n : ℕ) {out now : List ℕ} {at b : ℕ} → Filled (run (element s xs)) out at b now
+    → b ≡ n → n * 8 ≡ s .count → now ≡ sets out at (spread s xs)
+tile-stored s xs n {out} {at = at} h e c =
+    words-stored (element s xs) n h e ∙ ap (λ (l : List ℕ). sets out at l) (spread-is s xs (n * 8) c)
 
--- ---- an array that is filled from the front: n numbers are as f says, and the others 0
-pub record Starts (size : ℕ) (f : ℕ → ℕ → Type 0) (n : ℕ) (ws : List ℕ) : Type 0 where
+-- ---- an array that is filled from the front: n numbers are f's, and the others 0
+pub record Starts (size : ℕ) (f : ℕ → ℕ) (n : ℕ) (ws : List ℕ) : Type 0 where
   pub long : length ws ≡ size
-  pub are : (i : ℕ) → i < n → f i (getD ws i 0)
+  pub are : (i : ℕ) → i < n → getD ws i 0 ≡ f i
   pub none : (i : ℕ) → n ≤ i → getD ws i 0 ≡ 0
 
 abbrev pub zeros : List ℕ → Bool
@@ -99,15 +109,15 @@ zero-at [] t i = refl
 zero-at (x ∷ xs) t zero = eqb→eq x 0 (both-left (eqb x 0) (zeros xs) t)
 zero-at (x ∷ xs) t (suc i) = zero-at xs (both-right (eqb x 0) (zeros xs) t) i
 
-pub starts-none : (f : ℕ → ℕ → Type 0) (ws : List ℕ) → T (zeros ws) → Starts (length ws) f 0 ws
+pub starts-none : (f : ℕ → ℕ) (ws : List ℕ) → T (zeros ws) → Starts (length ws) f 0 ws
 starts-none f ws t = record { long = refl; are = λ i l. absurd (not-suc-le-zero l); none = λ i l. zero-at ws t i }
 
-pub starts-more : {size : ℕ} (f : ℕ → ℕ → Type 0) (n v : ℕ) (ws : List ℕ) → Starts size f n ws → n < size → f n v → Starts size f (n + 1) (set ws n v)
+pub starts-more : {size : ℕ} (f : ℕ → ℕ) (n v : ℕ) (ws : List ℕ) → Starts size f n ws → n < size → v ≡ f n → Starts size f (n + 1) (set ws n v)
 starts-more f n v ws h l e =
     record {
       long = length-set ws n v ∙ h .long;
-      are = λ i k. ⊎-elim (λ (same : i ≡ n). subst (λ (j : ℕ). f j (getD (set ws n v) j 0)) (sym same) (subst (f n) (sym (getD-set-same ws n v 0 (omega (arith, h .long)))) e))
-          (λ (less : i < n). subst (f i) (sym (getD-set-other ws n i v 0 (λ e. absurd (omega arith)))) (h .are i less))
+      are = λ i k. ⊎-elim (λ (same : i ≡ n). ap (λ (j : ℕ). getD (set ws n v) j 0) same ∙ getD-set-same ws n v 0 (omega (arith, h .long)) ∙ e ∙ ap f (sym same))
+          (λ (less : i < n). getD-set-other ws n i v 0 (λ e. absurd (omega arith)) ∙ h .are i less)
           (eq-or-lt-of-le (omega arith));
       none = λ i k. getD-set-other ws n i v 0 (λ e. absurd (omega arith)) ∙ h .none i (omega arith);
     }
@@ -117,7 +127,10 @@ pub length-part : (xs : List ℕ) (from n : ℕ) → from + n ≤ length xs → 
 length-part xs from n h = length-take-le n (drop from xs) (omega (arith, length-drop from xs))
 
 pub part-long : (xs : List ℕ) (from n m : ℕ) → n ≡ m → from + m ≤ length xs → length (take (from + n - from) (drop from xs)) ≡ m
-part-long xs from n m e h = let same : from + n - from ≡ m = omega arith in ap (λ (k : ℕ). length (take k (drop from xs))) same ∙ length-part xs from m h
+part-long xs from n m e h =
+    let same : from + n - from ≡ m = omega arith in
+    ap (λ (k : ℕ). length (take k (drop from xs))) same ∙ length-part xs from m h
 
 pub part-small : (xs : List ℕ) (from n i : ℕ) → ((i : ℕ) → getD xs i 0 < 256) → i < n → getD (take n (drop from xs)) i 0 < 256
-part-small xs from n i small l = subst (λ (v : ℕ). v < 256) (sym (getD-take n (drop from xs) i 0 l ∙ getD-drop from xs i 0)) (small (from + i))
+part-small xs from n i small l =
+    subst (λ (v : ℕ). v < 256) (sym (getD-take n (drop from xs) i 0 l ∙ getD-drop from xs i 0)) (small (from + i))

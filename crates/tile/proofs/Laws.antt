@@ -46,10 +46,11 @@ eight-bits (Sprite w h) = refl
 pub packed-bytes-in : (p : Packing) (pixels : List ℕ) → T (areBytes (packedIn p pixels))
 packed-bytes-in p pixels =
     let s = layoutIn p .bytes in
-    all-bytes (packedIn p pixels) (λ k l. subst (λ (n : ℕ). getD (packedIn p pixels) k 0 < 2 ^ n) (eight-bits p) (spread-lt s pixels k (rw (length-spread s pixels) at l)))
+    all-bytes (packedIn p pixels)
+    (λ k l. subst (λ (n : ℕ). getD (packedIn p pixels) k 0 < 2 ^ n) (eight-bits p) (spread-lt s pixels k (rw (length-spread s pixels) at l)))
 
-pub pixels-back-in : (p : Packing) → T (isPacking p) → (pixels : List ℕ) → length pixels ≡ pixelCount p → ((i : ℕ) → i < pixelCount p → getD pixels i 0 < 2 ^ layoutIn p .pixels .bits)
-    → unpackedIn p (packedIn p pixels) ≡ pixels
+pub pixels-back-in : (p : Packing) → T (isPacking p) → (pixels : List ℕ) → length pixels ≡ pixelCount p
+    → ((i : ℕ) → i < pixelCount p → getD pixels i 0 < 2 ^ layoutIn p .pixels .bits) → unpackedIn p (packedIn p pixels) ≡ pixels
 pixels-back-in p t pixels = there-and-back (layoutIn p .pixels) (layoutIn p .bytes) (from-pixels (layoutIn p) (layout-is p t)) pixels
 
 pub bytes-back-in : (p : Packing) → T (isPacking p) → (bytes : List ℕ) → length bytes ≡ byteCount p → T (areBytes bytes) → packedIn p (unpackedIn p bytes) ≡ bytes
@@ -89,7 +90,8 @@ module _ (m d w h : ℕ) (z : tileSays m d w h ≡ 0) where
   pub packs-unpacked : (bytes : List ℕ) (space : ℕ) → w * h * d / 8 ≤ space → packSays m d w h (unpacked m d w h bytes) space ≡ 0
   packs-unpacked bytes space fit =
       let pixels = unpacked m d w h bytes in
-      sym (pack-0 m d w h pixels space z (unpacked-length bytes) (all-small (length pixels) d pixels (λ i l. unpacked-small bytes i (rw (unpacked-length bytes) at l))) fit)
+      let small = all-small (length pixels) d pixels (λ i l. unpacked-small bytes i (rw (unpacked-length bytes) at l)) in
+      sym (pack-0 m d w h pixels space z (unpacked-length bytes) small fit)
 
   pub unpacks-packed : (pixels : List ℕ) (space : ℕ) → w * h ≤ space → unpackSays m d w h (length (packed m d w h pixels)) space ≡ 0
   unpacks-packed pixels space fit = sym (unpack-0 m d w h (length (packed m d w h pixels)) space z (packed-length pixels) fit)
@@ -102,7 +104,8 @@ pixels-return m d w h pixels space z =
     let a = packable m d w h pixels space z in
     pixels-back m d w h (a .allowed) pixels (a .whole) (a .small)
 
-pub bytes-return : (m d w h : ℕ) (bytes : List ℕ) (space : ℕ) → unpackSays m d w h (length bytes) space ≡ 0 → T (areBytes bytes) → packed m d w h (unpacked m d w h bytes) ≡ bytes
+pub bytes-return : (m d w h : ℕ) (bytes : List ℕ) (space : ℕ) → unpackSays m d w h (length bytes) space ≡ 0 → T (areBytes bytes)
+    → packed m d w h (unpacked m d w h bytes) ≡ bytes
 bytes-return m d w h bytes space z b =
     let a = unpackable m d w h (length bytes) space z in
     bytes-back m d w h (a .allowed) bytes (a .whole) b

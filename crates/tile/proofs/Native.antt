@@ -31,7 +31,8 @@ pub record Fitting (m d w h : ℕ) : Type 0 where
 abbrev fits : ℕ → ℕ → ℕ → ℕ → Bool
 fits m d w h =
     (isPacking (packingOf m d w h) && eqb (pixelCount (packingOf m d w h)) (w * h))
-    && ((eqb (layoutIn (packingOf m d w h) .pixels .bits) d && eqb (byteCount (packingOf m d w h)) (w * h * d / 8)) && (leb d 8 && (leb (w * h) 2048 && leb (w * h * d) 16384)))
+    && ((eqb (layoutIn (packingOf m d w h) .pixels .bits) d && eqb (byteCount (packingOf m d w h)) (w * h * d / 8))
+    && (leb d 8 && (leb (w * h) 2048 && leb (w * h * d) 16384)))
 
 abbrev fitsAt : ℕ → ℕ → Bool
 fitsAt m d = inEach (widths m) (λ w. inEach (heights m) (fits m d w))
@@ -42,9 +43,12 @@ all-fit = tt
 
 pub fitting : {m d w h : ℕ} → Native m d w h → Fitting m d w h
 fitting {m} {d} {w} {h} n =
-    let at-depth : T (fitsAt m d) = each-at (row m .depths) (fitsAt m) (all-at 16 (λ m. inEach (row m .depths) (fitsAt m)) all-fit m (n .mode)) d (n .depth) in
-    let at-width : T (inEach (heights m) (fits m d w)) = each-at (widths m) (λ w. inEach (heights m) (fits m d w)) at-depth w (both-left (oneOf w (widths m)) (oneOf h (heights m)) (n .size)) in
-    let here : T (fits m d w h) = each-at (heights m) (fits m d w) at-width h (both-right (oneOf w (widths m)) (oneOf h (heights m)) (n .size)) in
+    let depths = all-at 16 (λ m. inEach (row m .depths) (fitsAt m)) all-fit m (n .mode) in
+    let wide = both-left (oneOf w (widths m)) (oneOf h (heights m)) (n .size) in
+    let tall = both-right (oneOf w (widths m)) (oneOf h (heights m)) (n .size) in
+    let at-depth : T (fitsAt m d) = each-at (row m .depths) (fitsAt m) depths d (n .depth) in
+    let at-width : T (inEach (heights m) (fits m d w)) = each-at (widths m) (λ w. inEach (heights m) (fits m d w)) at-depth w wide in
+    let here : T (fits m d w h) = each-at (heights m) (fits m d w) at-width h tall in
     let p = packingOf m d w h in
     let a = isPacking p && eqb (pixelCount p) (w * h) in
     let b = eqb (layoutIn p .pixels .bits) d && eqb (byteCount p) (w * h * d / 8) in

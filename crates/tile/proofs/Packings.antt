@@ -49,7 +49,8 @@ planar-is : (g d : ℕ) → T (isPacking (Planar g d)) → T (isLayout (planar g
 planar-is g d t =
     let group : T (oneOf g (1 ∷ 2 ∷ 4 ∷ [])) = both-left (oneOf g (1 ∷ 2 ∷ 4 ∷ [])) (ltb d 9 && eqb (d % g) 0) t in
     let deep : T (ltb d 9 && eqb (d % g) 0) = both-right (oneOf g (1 ∷ 2 ∷ 4 ∷ [])) (ltb d 9 && eqb (d % g) 0) t in
-    let here : T (planarTest g d) = all-at 9 (planarTest g) (each-at (1 ∷ 2 ∷ 4 ∷ []) (λ g. all 9 (planarTest g)) tt g group) d (ltb→lt d 9 (both-left (ltb d 9) (eqb (d % g) 0) deep)) in
+    let depths : T (all 9 (planarTest g)) = each-at (1 ∷ 2 ∷ 4 ∷ []) (λ g. all 9 (planarTest g)) tt g group in
+    let here : T (planarTest g d) = all-at 9 (planarTest g) depths d (ltb→lt d 9 (both-left (ltb d 9) (eqb (d % g) 0) deep)) in
     implied (ltb d 9 && eqb (d % g) 0) (isLayout (planar g d 8 8)) here deep
 
 -- ---- sprites
@@ -137,11 +138,15 @@ cell-inside w h c t l =
 
 -- ---- a part that is a whole tile
 
-pub packs-whole : {p : Packing} {xs out : List ℕ} {from at n : ℕ} → Packs p xs from out at → n ≡ pixelCount p → PacksWhole p (take (from + n - from) (drop from xs)) out at
-packs-whole {p} {xs} {from = from} {n = n} h e = record { sound = h .sound; whole = part-long xs from n (pixelCount p) e (h .inside); space = h .space }
+pub packs-whole : {p : Packing} {xs out : List ℕ} {from at n : ℕ} → Packs p xs from out at → n ≡ pixelCount p
+    → PacksWhole p (take (from + n - from) (drop from xs)) out at
+packs-whole {p} {xs} {from = from} {n = n} h e =
+    record { sound = h .sound; whole = part-long xs from n (pixelCount p) e (h .inside); space = h .space }
 
-pub unpacks-whole : {p : Packing} {bs out : List ℕ} {from at n : ℕ} → Unpacks p bs from out at → n ≡ byteCount p → UnpacksWhole p (take (from + n - from) (drop from bs)) out at
-unpacks-whole {p} {bs} {from = from} {n = n} h e = record { sound = h .sound; whole = part-long bs from n (byteCount p) e (h .inside); space = h .space }
+pub unpacks-whole : {p : Packing} {bs out : List ℕ} {from at n : ℕ} → Unpacks p bs from out at → n ≡ byteCount p
+    → UnpacksWhole p (take (from + n - from) (drop from bs)) out at
+unpacks-whole {p} {bs} {from = from} {n = n} h e =
+    record { sound = h .sound; whole = part-long bs from n (byteCount p) e (h .inside); space = h .space }
 
 -- ---- what holds of a packing holds of the one that a match found it to be, and the other way
 
@@ -155,12 +160,14 @@ module _ {p : Packing} (q : Packing) (e : p ≡ q) where
   pub unpacks-in : {bs out : List ℕ} {at : ℕ} → UnpacksWhole p bs out at → UnpacksWhole q bs out at
   unpacks-in {bs} {out} {at} h = subst (λ (x : Packing). UnpacksWhole x bs out at) e h
 
-  pub same-bytes : (xs out : List ℕ) (at from n : ℕ) → n ≡ pixelCount p → sets out at (packedIn q (take (from + n - from) (drop from xs))) ≡ sets out at (packedIn p (take (pixelCount p) (drop from xs)))
+  pub same-bytes : (xs out : List ℕ) (at from n : ℕ) → n ≡ pixelCount p
+      → sets out at (packedIn q (take (from + n - from) (drop from xs))) ≡ sets out at (packedIn p (take (pixelCount p) (drop from xs)))
   same-bytes xs out at from n l =
       let size : from + n - from ≡ pixelCount p = omega arith in
       ap₂ (λ (x : Packing) (k : ℕ). sets out at (packedIn x (take k (drop from xs)))) (sym e) size
 
-  pub same-pixels : (bs out : List ℕ) (at from n : ℕ) → n ≡ byteCount p → sets out at (unpackedIn q (take (from + n - from) (drop from bs))) ≡ sets out at (unpackedIn p (take (byteCount p) (drop from bs)))
+  pub same-pixels : (bs out : List ℕ) (at from n : ℕ) → n ≡ byteCount p
+      → sets out at (unpackedIn q (take (from + n - from) (drop from bs))) ≡ sets out at (unpackedIn p (take (byteCount p) (drop from bs)))
   same-pixels bs out at from n l =
       let size : from + n - from ≡ byteCount p = omega arith in
       ap₂ (λ (x : Packing) (k : ℕ). sets out at (unpackedIn x (take k (drop from bs)))) (sym e) size

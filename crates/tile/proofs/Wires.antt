@@ -3,7 +3,7 @@
 use mathlib.Core.Path.{_≡_, refl, ap, _∙_}
 use mathlib.Core.Bool.{Bool}
 use mathlib.Core.List.{List, [], _∷_}
-use Prim.Native.Nat.{ℕ, zero, suc, _+_, _-_, _*_, _/_, _%_, _^_, _<_}
+use Prim.Native.Nat.{ℕ, zero, suc, _+_, _*_, _/_, _%_, _^_, _<_}
 use native.Mathlib.Omega.{arith}
 use lib.Dec.{T, ltb}
 use lib.ListN.{getD}
@@ -12,21 +12,29 @@ use Rattle.words.specs.Inner.{all}
 use Rattle.words.proofs.Loops.{all-at}
 use Rattle.tile.specs.Layout.{Side}
 use Rattle.tile.specs.Packings.{planar, ngp, lowFirst, highFirst}
-use Rattle.tile.specs.Inner.{Small, wordFrom, column, strands, cell, quarter, crossed, reversedBytes}
+use Rattle.tile.specs.Inner.{Small, wordFrom, column, strands, cell, quarter, crossed, reversedBytes, gathered}
 use Rattle.tile.proofs.Wiring.{Wire, given, down, up, keep, join, value, pick, merge, origin, isFrom, suits, isWiredIn, wired-in}
+
+-- for bit j of word b of a side: whether it has it, and from which word and which bit of it
+abbrev live : Side → ℕ → Bool
+live s j = ltb (j % 8) (s .bits)
+
+abbrev wordOf : Side → ℕ → ℕ → ℕ
+wordOf s b j = s .from (b * 8 + j / 8) (j % 8) / 8
+
+abbrev bitIn : Side → ℕ → ℕ → ℕ
+bitIn s b j = s .from (b * 8 + j / 8) (j % 8) % 8 * 8 + s .place (b * 8 + j / 8) (j % 8)
 
 -- the wire of each of n words is as the side says
 unfoldable pub isSide : Side → ℕ → (ℕ → Wire) → Bool
-isSide s n w =
-    all n
-    (λ b. isWiredIn 64 (w b) (λ j. ltb (j % 8) (s .bits)) (λ j. s .from (b * 8 + j / 8) (j % 8) / 8)
-    (λ j. s .from (b * 8 + j / 8) (j % 8) % 8 * 8 + s .place (b * 8 + j / 8) (j % 8)))
+isSide s n w = all n (λ b. isWiredIn 64 (w b) (live s) (wordOf s b) (bitIn s b))
 
-pub word-is : (s : Side) (n : ℕ) (w : ℕ → Wire) → T (isSide s n w) → (ws : List ℕ) → Small ws → (b : ℕ) → b < n → value (λ i. getD ws i 0) (w b) ≡ wordFrom s ws b
+pub word-is : (s : Side) (n : ℕ) (w : ℕ → Wire) → T (isSide s n w) → (ws : List ℕ) → Small ws → (b : ℕ) → b < n
+    → value (λ i. getD ws i 0) (w b) ≡ wordFrom s ws b
 unfolding isSide wordFrom
 word-is s n w t ws h b l =
-    wired-in 64 (w b) (λ j. ltb (j % 8) (s .bits)) (λ j. s .from (b * 8 + j / 8) (j % 8) / 8) (λ j. s .from (b * 8 + j / 8) (j % 8) % 8 * 8 + s .place (b * 8 + j / 8) (j % 8))
-    (all-at n (λ b. isWiredIn 64 (w b) (λ j. ltb (j % 8) (s .bits)) (λ j. s .from (b * 8 + j / 8) (j % 8) / 8) (λ j. s .from (b * 8 + j / 8) (j % 8) % 8 * 8 + s .place (b * 8 + j / 8) (j % 8))) t b l)
+    wired-in 64 (w b) (live s) (wordOf s b) (bitIn s b)
+    (all-at n (λ b. isWiredIn 64 (w b) (live s) (wordOf s b) (bitIn s b)) t b l)
     (omega arith) (λ i. getD ws i 0) h
 
 -- ---- turning
@@ -35,7 +43,9 @@ unfoldable pub swap : ℕ → ℕ → ℕ → Wire → Wire
 swap c m s w = join (join (keep w c) (up (keep w m) s)) (keep (down w s) m)
 
 unfoldable pub cross : Wire → Wire
-cross w = swap 0xf0f0f0f00f0f0f0f 0x00000000f0f0f0f0 28 (swap 0xcccc3333cccc3333 0x0000cccc0000cccc 14 (swap 0xaa55aa55aa55aa55 0x00aa00aa00aa00aa 7 w))
+cross w =
+    swap 0xf0f0f0f00f0f0f0f 0x00000000f0f0f0f0 28
+    (swap 0xcccc3333cccc3333 0x0000cccc0000cccc 14 (swap 0xaa55aa55aa55aa55 0x00aa00aa00aa00aa 7 w))
 
 unfoldable pub trade : ℕ → ℕ → Wire → Wire
 trade m s w = join (up (keep w m) s) (keep (down w s) m)
@@ -50,6 +60,13 @@ cross-value e w = refl
 pub backwards-value : (e : ℕ → ℕ) (w : Wire) → reversedBytes (value e w) ≡ value e (backwards w)
 unfolding reversedBytes value backwards trade
 backwards-value e w = refl
+
+-- a word of wires that is turned round and crossed
+pub turned-is : (s : Side) (n : ℕ) (w : ℕ → Wire) → T (isSide s n (λ b. cross (backwards (w b)))) → (ws : List ℕ) → Small ws → (b x y : ℕ) → b < n
+    → x ≡ reversedBytes (value (λ i. getD ws i 0) (w b)) → y ≡ crossed x → y ≡ wordFrom s ws b
+turned-is s n w t ws h b x y l e f =
+    let g : ℕ → ℕ = λ i. getD ws i 0 in
+    f ∙ ap crossed (e ∙ backwards-value g (w b)) ∙ cross-value g (backwards (w b)) ∙ word-is s n (λ b. cross (backwards (w b))) t ws h b l
 
 columns-wire : T (isSide column 1 (λ b. backwards (cross (given 0))))
 unfolding isSide isWiredIn cross backwards swap trade origin pick merge isFrom suits
@@ -76,9 +93,15 @@ unfoldable pub one : ℕ → ℕ → ℕ → Wire
 one i s m = keep (down (given i) s) m
 
 -- the words at, at + 1, ..
-unfoldable pub eight : ℕ → ℕ → ℕ → Wire
-eight at s m =
-    join (join (join (join (join (join (join (one at s m) (part (at + 1) s m 1)) (part (at + 2) s m 2)) (part (at + 3) s m 3)) (part (at + 4) s m 4)) (part (at + 5) s m 5)) (part (at + 6) s m 6)) (part (at + 7) s m 7)
+unfoldable pub eight : ℕ → ℕ → Wire
+eight at s =
+    let m : ℕ = 0x0101010101010101 in
+    let up : ℕ → Wire = λ k. part (at + k) s m k in
+    join (join (join (join (join (join (join (one at s m) (up 1)) (up 2)) (up 3)) (up 4)) (up 5)) (up 6)) (up 7)
+
+pub eight-value : (ws : List ℕ) (at s : ℕ) → gathered ws at s ≡ value (λ i. getD ws i 0) (eight at s)
+unfolding gathered value eight one part
+eight-value ws at s = refl
 
 -- the words at, at + n, ..
 unfoldable pub four : ℕ → ℕ → ℕ → ℕ → ℕ → Wire
@@ -88,16 +111,16 @@ unfoldable pub two : ℕ → ℕ → ℕ → ℕ → ℕ → Wire
 two at n s m u = join (one at s m) (part (at + n) s m u)
 
 unfoldable pub ones : ℕ → Wire
-ones b = cross (backwards (eight 0 b 0x0101010101010101))
+ones b = eight 0 b
 
 unfoldable pub pairs : ℕ → Wire
-pairs b = cross (backwards (four (b % 2 * 4) 1 (b / 2 * 2) 0x0303030303030303 2))
+pairs b = four (b % 2 * 4) 1 (b / 2 * 2) 0x0303030303030303 2
 
 unfoldable pub fours : ℕ → Wire
-fours b = cross (backwards (two (b % 4 * 2) 1 (b / 4 * 4) 0x0f0f0f0f0f0f0f0f 4))
+fours b = two (b % 4 * 2) 1 (b / 4 * 4) 0x0f0f0f0f0f0f0f0f 4
 
 unfoldable pub oneRow : ℕ → Wire
-oneRow r = eight 0 r 0x0101010101010101
+oneRow r = eight 0 r
 
 unfoldable pub pairRow : ℕ → Wire
 pairRow r = four (r / 4) 2 (r % 4 * 2) 0x0303030303030303 2
@@ -106,17 +129,17 @@ unfoldable pub fourRow : ℕ → Wire
 fourRow r = two (r / 2) 4 (r % 2 * 4) 0x0f0f0f0f0f0f0f0f 4
 
 unfoldable pub cellPlane : ℕ → Wire
-cellPlane b = cross (eight (b % 4 * 8) (b / 4) 0x0101010101010101)
+cellPlane b = cross (eight (b % 4 * 8) (b / 4))
 
-pub ones-are : T (isSide (planar 1 8 8 8 .bytes) 8 ones)
+pub ones-are : T (isSide (planar 1 8 8 8 .bytes) 8 (λ b. cross (backwards (ones b))))
 unfolding isSide isWiredIn ones eight one part cross backwards swap trade origin pick merge isFrom suits
 ones-are = tt
 
-pub pairs-are : T (isSide (planar 2 8 8 8 .bytes) 8 pairs)
+pub pairs-are : T (isSide (planar 2 8 8 8 .bytes) 8 (λ b. cross (backwards (pairs b))))
 unfolding isSide isWiredIn pairs four one part cross backwards swap trade origin pick merge isFrom suits
 pairs-are = tt
 
-pub fours-are : T (isSide (planar 4 8 8 8 .bytes) 8 fours)
+pub fours-are : T (isSide (planar 4 8 8 8 .bytes) 8 (λ b. cross (backwards (fours b))))
 unfolding isSide isWiredIn fours two one part cross backwards swap trade origin pick merge isFrom suits
 fours-are = tt
 
@@ -175,7 +198,9 @@ unfoldable pub highBytes : ℕ → Wire
 highBytes i = bytes4 (close 4 8 0x00ff00ff00ff00ff (keep (given i) 0x0f0f0f0f0f0f0f0f))
 
 unfoldable pub ngpBytes : ℕ → Wire
-ngpBytes i = let c : Wire = close 4 16 0x000000ff000000ff (close 2 8 0x000f000f000f000f (keep (given i) 0x0303030303030303)) in join (up c 8) (down c 32)
+ngpBytes i =
+    let c : Wire = close 4 16 0x000000ff000000ff (close 2 8 0x000f000f000f000f (keep (given i) 0x0303030303030303)) in
+    join (up c 8) (down c 32)
 
 unfoldable pub lows : ℕ → Wire
 lows b = join (keep (lowBytes (b * 2)) 0x00000000ffffffff) (up (lowBytes (b * 2 + 1)) 32)
@@ -186,7 +211,8 @@ highs b = join (keep (highBytes (b * 2)) 0x00000000ffffffff) (up (highBytes (b *
 unfoldable pub ngps : ℕ → Wire
 ngps b =
     let m : ℕ = 0x000000000000ffff in
-    join (join (join (keep (ngpBytes (b * 4)) m) (up (keep (ngpBytes (b * 4 + 1)) m) 16)) (up (keep (ngpBytes (b * 4 + 2)) m) 32)) (up (ngpBytes (b * 4 + 3)) 48)
+    let low : Wire = join (keep (ngpBytes (b * 4)) m) (up (keep (ngpBytes (b * 4 + 1)) m) 16) in
+    join (join low (up (keep (ngpBytes (b * 4 + 2)) m) 32)) (up (ngpBytes (b * 4 + 3)) 48)
 
 unfoldable pub widenBy : ℕ → ℕ → Wire → Wire
 widenBy s m w = keep (join w (up w s)) m
@@ -208,7 +234,8 @@ highRow r = spreadBy 4 8 0x0f0f0f0f0f0f0f0f (apart r)
 unfoldable pub ngpRow : ℕ → Wire
 ngpRow r =
     let x : Wire = down (given (r / 4)) (r % 4 * 16) in
-    spreadBy 2 8 0x0303030303030303 (spreadBy 4 16 0x000f000f000f000f (keep (join (keep (down x 8) 0x00000000000000ff) (up x 32)) 0x000000ff000000ff))
+    let y : Wire = keep (join (keep (down x 8) 0x00000000000000ff) (up x 32)) 0x000000ff000000ff in
+    spreadBy 2 8 0x0303030303030303 (spreadBy 4 16 0x000f000f000f000f y)
 
 pub lows-are : T (isSide (lowFirst 8 8 .bytes) 4 lows)
 unfolding isSide isWiredIn lows lowBytes bytes4 fold origin pick merge isFrom suits

@@ -75,10 +75,12 @@ by-test e true o v h k = h tt
 by-test e false o v h k = k tt
 
 -- a bit of a word that was shifted up
-shifted : (v s j : ℕ) (e : ℕ → ℕ) (o : Origin) → bitOf (j - s) v ≡ meaning e o → bitOf j (v * 2 ^ s % 2 ^ 64) ≡ meaning e (pick (ltb j 64) (pick (ltb s (suc j)) o))
+shifted : (v s j : ℕ) (e : ℕ → ℕ) (o : Origin) → bitOf (j - s) v ≡ meaning e o
+    → bitOf j (v * 2 ^ s % 2 ^ 64) ≡ meaning e (pick (ltb j 64) (pick (ltb s (suc j)) o))
 shifted v s j e o h =
     by-test e (ltb j 64) (pick (ltb s (suc j)) o) (bitOf j (v * 2 ^ s % 2 ^ 64))
-    (λ t. bit-low j (v * 2 ^ s) 64 (ltb→lt j 64 t) ∙ by-test e (ltb s (suc j)) o (bitOf j (v * 2 ^ s)) (λ u. inside (ltb→lt s (suc j) u)) (λ u. bit-below j v s (nltb→le s (suc j) u)))
+    (λ t. bit-low j (v * 2 ^ s) 64 (ltb→lt j 64 t)
+    ∙ by-test e (ltb s (suc j)) o (bitOf j (v * 2 ^ s)) (λ u. inside (ltb→lt s (suc j) u)) (λ u. bit-below j v s (nltb→le s (suc j) u)))
     (λ t. bit-above j (v * 2 ^ s % 2 ^ 64) 64 (mod-lt (v * 2 ^ s) (pow-pos 64)) (nltb→le j 64 t))
   where
     inside : s < suc j → bitOf j (v * 2 ^ s) ≡ meaning e o
@@ -101,9 +103,11 @@ sound n e h (given i) j =
 sound n e h (down w s) j = bit-shr j (value e w) s ∙ sound n e h w (s + j)
 sound n e h (up w s) j = shifted (value e w) s j e (origin n w (j - s)) (sound n e h w (j - s))
 sound n e h (keep w m) j =
-    by-test e (eqb (bitOf j m) 1) (origin n w j) (bitOf j (bitAnd (value e w) m)) (λ t. bit-kept j (value e w) m (eqb→eq (bitOf j m) 1 t) ∙ sound n e h w j)
+    by-test e (eqb (bitOf j m) 1) (origin n w j) (bitOf j (bitAnd (value e w) m))
+    (λ t. bit-kept j (value e w) m (eqb→eq (bitOf j m) 1 t) ∙ sound n e h w j)
     (λ t. bit-cleared j (value e w) m (not-one (bitOf j m) (omega arith) t))
-sound n e h (join v w) j = bit-or j (value e v) (value e w) ∙ ap₂ bitOr (sound n e h v j) (sound n e h w j) ∙ merge-means e (origin n v j) (origin n w j)
+sound n e h (join v w) j =
+    bit-or j (value e v) (value e w) ∙ ap₂ bitOr (sound n e h v j) (sound n e h w j) ∙ merge-means e (origin n v j) (origin n w j)
 
 value-lt : (n : ℕ) (e : ℕ → ℕ) → ((i : ℕ) → e i < 2 ^ n) → n ≤ 64 → (w : Wire) → value e w < 2 ^ 64
 unfolding value
@@ -149,4 +153,5 @@ unfolding isWiredIn
 wired-in n w live i p t l e h =
     sym (mod-eq-of-lt (value-lt n e h l w)) ∙ ap (λ (x : ℕ). x % 2 ^ 64) (sym (div-one (value e w))) ∙ sym (bits-of 64 0 (value e w))
     ∙ bits-same 64 0 (λ j. bitOf j (value e w)) (λ j. gate (live j) (bitOf (p j) (e (i j))))
-    (λ j a b. sound n e h w j ∙ suits-means e (live j) (origin n w j) (i j) (p j) (all-at 64 (λ j. suits (live j) (origin n w j) (i j) (p j)) t j (omega arith)))
+    (λ j a b. sound n e h w j
+    ∙ suits-means e (live j) (origin n w j) (i j) (p j) (all-at 64 (λ j. suits (live j) (origin n w j) (i j) (p j)) t j (omega arith)))

@@ -1,7 +1,7 @@
 -- What the functions that pack and unpack a known packing ask, and what they compute on the way.
 -- Assumes nothing.
 use mathlib.Core.Path.{_≡_}
-use mathlib.Core.Bool.{Bool, true, false, cond, _&&_}
+use mathlib.Core.Bool.{Bool, true, false, _&&_}
 use mathlib.Core.List.{List, [], _∷_}
 use Prim.Native.Nat.{ℕ, zero, suc, _+_, _-_, _*_, _/_, _%_, _^_, _≤_, _<_}
 use lib.Bits.{bitAnd, bitOr}
@@ -12,10 +12,10 @@ use Rattle.words.specs.Eights.{wordAt, byteIn, bytesIn}
 use Rattle.words.specs.Loops.{each}
 use Rattle.mode.specs.Table.{oneOf}
 use Rattle.tile.specs.Bits.{bitOf, fromBits}
-use Rattle.tile.specs.Packings.{layoutIn, lowFirst, highFirst}
+use Rattle.tile.specs.Packings.{layoutIn}
 use Rattle.tile.specs.declared.Packing.{Packing}
 use Rattle.tile.specs.declared.Packing.the-variants.{Planar, Ngp, LowFirst, HighFirst, Plain, Sprite}
-use Rattle.tile.specs.Layout.{Side, Layout, spread}
+use Rattle.tile.specs.Layout.{Side, spread}
 
 -- How many pixels and bytes a packing has; and the bytes of its pixels, and back.
 abbrev pub pixelCount : Packing → ℕ
@@ -74,9 +74,14 @@ pub record Planes (g d : ℕ) : Type 0 where
   pub pairs : g ≡ 2 → d % 2 ≡ 0
   pub fours : g ≡ 4 → d % 4 ≡ 0
 
--- Nibbles, the first pixel in the high one or in the low one.
-abbrev pub nibbles : Bool → Layout
-nibbles high = cond high (highFirst 8 8) (lowFirst 8 8)
+-- The packings whose pixels stand one after the other, each with its bits together, in less than a byte.
+abbrev pub isChunky : Packing → Bool
+isChunky (Planar g d) = false
+isChunky Ngp = true
+isChunky LowFirst = true
+isChunky HighFirst = true
+isChunky Plain = false
+isChunky (Sprite w h) = false
 
 -- ---- words of eight bytes, the first at the bottom
 
@@ -192,3 +197,14 @@ beside s n m a b = bitOr (bitAnd (a / 2 ^ s) m) (bitAnd (b / 2 ^ s) m * 2 ^ n % 
 
 unfoldable pub pixelBits : ℕ → ℕ → ℕ → ℕ → ℕ → ℕ
 pixelBits a b c d k = beside (k / 2 * 2) 2 0x3333333333333333 (beside (k % 2) 1 0x5555555555555555 a b) (beside (k % 2) 1 0x5555555555555555 c d)
+
+-- Bit s of each byte of a word, moved up by u.
+abbrev pub bitsUp : ℕ → ℕ → ℕ → ℕ
+bitsUp s u w = bitAnd (w / 2 ^ s) 0x0101010101010101 * 2 ^ u % 2 ^ 64
+
+-- Bit s of each byte of eight words from place at on: bit k of a byte is that of word at + k.
+unfoldable pub gathered : List ℕ → ℕ → ℕ → ℕ
+gathered ws at s =
+    let up : ℕ → ℕ = λ k. bitsUp s k (getD ws (at + k) 0) in
+    let low : ℕ = bitOr (bitOr (bitOr (bitAnd (getD ws at 0 / 2 ^ s) 0x0101010101010101) (up 1)) (up 2)) (up 3) in
+    bitOr (bitOr (bitOr (bitOr low (up 4)) (up 5)) (up 6)) (up 7)
