@@ -8,7 +8,7 @@ use Prim.Native.Nat.{ℕ, _+_, _-_, _%_, _<_, _≤_}
 use native.Mathlib.Nat.{add-assoc, eq-zero-or-pos}
 use native.Mathlib.Omega.{arith}
 use lib.ListN.{getD}
-use Rattle.words.specs.Eights.{eightAt, wordAt, byteIn}
+use Rattle.words.specs.Inner.{eightAt, wordAt, byteIn}
 use Rattle.words.proofs.Eights.{wide-same, word-byte-at}
 use Rattle.flip.specs.Flips.{turned}
 use Rattle.flip.specs.Inner.{RowAgrees, eightFrom}

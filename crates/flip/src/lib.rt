@@ -1,7 +1,7 @@
 // The four flips of a tile, and whether one tile is another under a flip.
 ghost use mathlib.Core.Path.{_≡_};
 ghost use Prim.Native.Nat.{_+_, _*_, _<_, _≤_};
-ghost use lib.ListN.{length, take, drop};
+ghost use lib.ListN.{take, drop};
 ghost use Rattle.words.specs.Bytes.{same};
 ghost use Rattle.flip.specs.Flips.{turned, flipAt, flipped};
 ghost use Rattle.flip.specs.Matching.{matchFlip};

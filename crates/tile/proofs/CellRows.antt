@@ -8,8 +8,7 @@ use native.Mathlib.Omega.{arith}
 use lib.Dec.{T, ltb, eqb, ltb→lt, eqb→eq}
 use lib.ListN.{getD}
 use lib.Pow.{pow-pos}
-use Rattle.words.specs.Eights.{wordAt, byteIn}
-use Rattle.words.specs.Inner.{all}
+use Rattle.words.specs.Inner.{wordAt, byteIn, all}
 use Rattle.words.proofs.Eights.{word-small, word-byte-at}
 use Rattle.words.proofs.Items.{item-getD, number-at}
 use Rattle.words.proofs.Loops.{both-left, both-right, all-at}

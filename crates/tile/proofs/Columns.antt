@@ -9,8 +9,7 @@ use native.Mathlib.Nat.{eq-zero-or-pos, zero-div, zero-add}
 use native.Mathlib.Omega.{arith}
 use lib.Dec.{T, ltb, eqb, ltb→lt}
 use lib.ListN.{List·getD-eq-default, length, getD}
-use Rattle.words.specs.Eights.{wordAt, byteIn}
-use Rattle.words.specs.Inner.{all}
+use Rattle.words.specs.Inner.{wordAt, byteIn, all}
 use Rattle.words.proofs.Eights.{word-small, word-byte-at}
 use Rattle.words.proofs.Loops.{both-left, both-right, all-at}
 use Rattle.mode.specs.Table.{oneOf}

@@ -16,7 +16,7 @@ use Rattle.words.proofs.Loops.{both-left, both-right}
 use Rattle.words.proofs.Filling.{Filled, filled-more, filled-all}
 use Rattle.tile.specs.Bits.{table}
 use Rattle.tile.specs.Layout.{Side, element, spread}
-use Rattle.words.specs.Eights.{byteIn, bytesIn}
+use Rattle.words.specs.Inner.{byteIn, bytesIn}
 use Rattle.tile.specs.Inner.{HasWord, HasWords}
 
 pub length-table : (n at : ℕ) (f : ℕ → ℕ) → length (table n at f) ≡ n

@@ -3,7 +3,7 @@
 use mathlib.Core.Path.{_≡_, refl, sym, ap, ap₂, _∙_}
 use mathlib.Core.List.{List, [], _∷_}
 use Prim.Native.Nat.{ℕ, _+_, _*_, _/_, _%_, _≤_, _<_}
-use native.Mathlib.Nat.{lt-of-lt-of-le, mul-add-div-right, mul-add-mod-self-right, div-eq-of-lt, mod-eq-of-lt, add-zero}
+use native.Mathlib.Nat.{lt-of-lt-of-le}
 use native.Mathlib.Omega.{arith}
 use lib.Dec.{T}
 use lib.ListN.{length, getD}
@@ -14,8 +14,8 @@ use Rattle.words.proofs.Items.{each-eq}
 use Rattle.words.proofs.Filling.{each-of}
 use Rattle.tile.specs.Bits.{bitOf, fromBits}
 use Rattle.tile.specs.Layout.{Layout, element, spread}
-use Rattle.tile.specs.Packings.{planar, plain, sprite, spriteByte, layoutIn}
-use Rattle.words.specs.Eights.{byteIn}
+use Rattle.tile.specs.Packings.{planar, plain, sprite, layoutIn}
+use Rattle.words.specs.Inner.{byteIn}
 use Rattle.tile.specs.Inner.{pixelCount, byteCount, isPacking, isChunky, byteOf, WordsOf, CellOf, wordFrom, HasWord, cell, cellByte}
 use Rattle.tile.specs.declared.Packing.{Packing}
 use Rattle.tile.specs.declared.Packing.the-variants.{Planar, Ngp, LowFirst, HighFirst, Plain, Sprite}

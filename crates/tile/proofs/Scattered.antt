@@ -9,7 +9,7 @@ use native.Mathlib.Numerals.{add-one}
 use native.Mathlib.Omega.{arith}
 use lib.ListN.{length, getD, set, length-set}
 use lib.Seq.{sets, length-sets, getD-set-same, getD-set-other, ext-getD}
-use Rattle.words.specs.Eights.{byteIn, bytesIn}
+use Rattle.words.specs.Inner.{byteIn, bytesIn}
 use Rattle.words.specs.Loops.{each}
 use Rattle.words.proofs.Items.{length-ones, number-at}
 use Rattle.tile.specs.Inner.{HasWord, storedAt}

@@ -11,7 +11,7 @@ use lib.Dec.{T, ltb}
 use lib.Pow.{pow-pos}
 use lib.ListN.{List·getD-eq-default, length, getD}
 use borrow.Author.Tests.{le-ltb, lt-ltb}
-use Rattle.words.specs.Eights.{wordAt, byteIn}
+use Rattle.words.specs.Inner.{wordAt, byteIn}
 use Rattle.words.proofs.Eights.{word-small, word-byte-at}
 use Rattle.tile.specs.Bits.{bitOf, fromBits}
 use Rattle.tile.specs.Layout.{Side, element}

@@ -8,7 +8,7 @@ use lib.Bits.{bitAnd, bitOr}
 use lib.Dec.{T, ltb, eqb}
 use lib.ListN.{length, getD}
 use lib.Seq.{sets}
-use Rattle.words.specs.Eights.{wordAt, byteIn, bytesIn}
+use Rattle.words.specs.Inner.{wordAt, byteIn, bytesIn}
 use Rattle.words.specs.Loops.{each}
 use Rattle.mode.specs.Table.{oneOf}
 use Rattle.tile.specs.Bits.{bitOf, fromBits}

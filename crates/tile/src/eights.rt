@@ -3,7 +3,7 @@ ghost use mathlib.Core.Path.{_≡_};
 ghost use Prim.Native.Nat.{_+_, _*_, _<_, _≤_};
 ghost use lib.ListN.{length, getD};
 ghost use lib.Seq.{sets};
-ghost use Rattle.words.specs.Eights.{bytesIn};
+ghost use Rattle.words.specs.Inner.{bytesIn};
 ghost use Rattle.words.specs.Loops.{each};
 ghost use Rattle.tile.specs.Inner.{WordsOf, crossed, reversedBytes, gathered};
 

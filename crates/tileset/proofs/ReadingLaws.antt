@@ -11,7 +11,7 @@ use lib.Dec.{ltb, eqb}
 use lib.ListN.{length, getD, drop, take, length-append, length-drop, List·getD-append}
 use borrow.Author.Tests.{eq-eqb, ne-eqb, lt-ltb, le-ltb, ltb-true, ltb-false}
 use Rattle.words.specs.Answers.{_when_, firstApplying, overwrite}
-use Rattle.words.specs.Eights.{eight}
+use Rattle.words.specs.Inner.{eight}
 use Rattle.words.specs.Loops.{each}
 use Rattle.words.proofs.Answers.{all-passed, not-given, when-done, when-refused}
 use Rattle.words.proofs.Items.{item-getD, item-inside, item-end, each-eq, each-each}

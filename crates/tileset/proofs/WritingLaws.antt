@@ -11,7 +11,7 @@ use lib.ListN.{length, getD, drop, take, replicate}
 use lib.Seq.{take-all}
 use borrow.Author.Tests.{eq-eqb, ne-eqb, eqb-true, eqb-false, lt-ltb, le-ltb, ltb-false}
 use Rattle.words.specs.Answers.{_when_, firstApplying}
-use Rattle.words.specs.Eights.{eight}
+use Rattle.words.specs.Inner.{eight}
 use Rattle.words.specs.Loops.{each, some}
 use Rattle.words.proofs.Answers.{all-passed, not-given}
 use Rattle.words.proofs.Filling.{each-part}

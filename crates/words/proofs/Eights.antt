@@ -9,8 +9,7 @@ use native.Mathlib.Numerals.{add-one, unary-clauses}
 use native.Mathlib.Omega.{arith}
 use lib.ListN.{getD}
 use lib.Pow.{pow-add, pow-mono}
-use Rattle.words.specs.Loops.{each}
-use Rattle.words.specs.Eights.{wide, eightAt, wordAt, eight, byteIn, bytesIn}
+use Rattle.words.specs.Inner.{wide, eightAt, wordAt, eight, byteIn, bytesIn}
 use Rattle.words.proofs.Items.{each-eq}
 
 pub wide-same : (n at : ℕ) (f g : ℕ → ℕ) → ((j : ℕ) → at ≤ j → j < at + n → f j ≡ g j) → wide n at f ≡ wide n at g

@@ -1,10 +1,12 @@
 -- Inner shapes: what the code and its proofs compute on the way; no promise and no law reaches it.
 -- Assumes nothing.
-use Prim.Native.Nat.{ℕ, _+_, zero, suc}
+use Prim.Native.Nat.{ℕ, zero, suc, _+_, _-_, _*_, _/_, _%_, _^_}
 use mathlib.Core.Bool.{Bool, true, cond, _&&_}
 use mathlib.Core.List.{List, [], _∷_}
 use lib.Dec.{ltb, eqb}
+use lib.ListN.{getD}
 use Rattle.words.specs.Fields.{Field}
+use Rattle.words.specs.Loops.{each}
 
 -- The bits of all fields, and of one value's.
 abbrev pub bitsOf : List Field → ℕ
@@ -38,3 +40,28 @@ startAgain from k (f ∷ fs) = cond (eqb k (f .value)) (startAgain (from + f .bi
 abbrev pub all : ℕ → (ℕ → Bool) → Bool
 all zero f = true
 all (suc n) f = f n && all n f
+
+-- ---- eight bytes as one word, the first at the bottom: so they are moved, compared and packed at once
+
+-- The number whose bytes, lowest first, are f at, f (at + 1), .., n of them.
+unfoldable pub wide : ℕ → ℕ → (ℕ → ℕ) → ℕ
+wide zero at f = 0
+wide (suc n) at f = f at + 256 * wide n (suc at) f
+
+-- Byte x of the eight from place at on, or, read back, of the eight from their end; and the word of the eight.
+abbrev pub eightAt : Bool → List ℕ → ℕ → ℕ → ℕ
+eightAt back xs at x = getD xs (at + cond back (7 - x) x) 0
+
+abbrev pub wordAt : Bool → List ℕ → ℕ → ℕ
+wordAt back xs at = wide 8 0 (eightAt back xs at)
+
+-- The eight themselves.
+abbrev pub eight : Bool → List ℕ → ℕ → List ℕ
+eight back xs at = each 8 (λ x. eightAt back xs at x ∷ [])
+
+-- Byte m of a word, and all of them.
+abbrev pub byteIn : ℕ → ℕ → ℕ
+byteIn w m = w / 2 ^ (m * 8) % 256
+
+abbrev pub bytesIn : ℕ → List ℕ
+bytesIn w = each 8 (λ m. byteIn w m ∷ [])

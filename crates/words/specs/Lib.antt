@@ -1,6 +1,5 @@
 pub mod Answers
 pub mod Bytes
-pub mod Eights
 pub mod Fields
 pub mod Loops
 pub mod Inner

@@ -8,7 +8,7 @@ ghost use lib.ListN.{length, take, drop};
 ghost use lib.Seq.{sets};
 ghost use Rattle.words.specs.Answers.{written, numbered};
 ghost use Rattle.words.specs.Bytes.{bit, bytesOf, wordOf, same};
-ghost use Rattle.words.specs.Eights.{wordAt, eight, byteIn, bytesIn};
+ghost use Rattle.words.specs.Inner.{wordAt, eight, byteIn, bytesIn};
 
 // What a call that writes bytes answers: document 01's number, and how many bytes it wrote.
 #[repr(C)]

@@ -5,7 +5,7 @@ use native.Mathlib.Omega.{arith}
 use lib.ListN.{getD}
 use denote.Ref.{now}
 use borrow.Author.Needs.{needs}
-use Rattle.words.specs.Eights.{wordAt}
+use Rattle.words.specs.Inner.{wordAt}
 use Rattle.flip.specs.Flips.{turned}
 use Rattle.flip.specs.Inner.{eightFrom}
 use Rattle.flip.proofs.Eights.{eight-left, eight-differs, eight-agrees}

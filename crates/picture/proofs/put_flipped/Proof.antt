@@ -5,7 +5,7 @@ use Prim.Native.Nat.{ℕ, _≤_, _-_, _+_, _*_}
 use native.Mathlib.Omega.{arith}
 use lib.Seq.{sets}
 use denote.Ref.{now}
-use Rattle.words.specs.Eights.{eight}
+use Rattle.words.specs.Inner.{eight}
 use Rattle.words.proofs.Filling.{Filled, filled-none, filled-more, filled-all}
 use Rattle.flip.proofs.Group.{flippedRow, flipped-rows}
 use borrow.Author.Needs.{needs}

@@ -4,7 +4,7 @@ use Prim.Native.Nat.{_-_, _≤_}
 use native.Mathlib.Omega.{arith}
 use borrow.Author.Needs.{needs}
 use Rattle.words.proofs.Filling.{Filled, filled-none, filled-one, filled-all}
-use Rattle.words.specs.Eights.{byteIn}
+use Rattle.words.specs.Inner.{byteIn}
 use Rattle.words.proofs.put_bytes.Statement.{statement}
 use Rattle.words.proofs.put_bytes.Tie as tie
 

@@ -5,7 +5,7 @@ use Prim.Native.Nat.{ℕ}
 use lib.Seq.{sets}
 use denote.Ref.{now}
 use borrow.Author.Needs.{needs}
-use Rattle.words.specs.Eights.{bytesIn}
+use Rattle.words.specs.Inner.{bytesIn}
 use Rattle.words.proofs.Eights.{word-eight}
 use Rattle.words.proofs.put_eight.Statement.{statement}
 use Rattle.words.proofs.put_eight.Tie as tie

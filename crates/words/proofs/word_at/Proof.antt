@@ -1,5 +1,4 @@
 -- Eight bytes are read, and put together from either end.
-use native.Mathlib.Omega.{arith}
 use denote.Ref.{now}
 use Rattle.words.proofs.Eights.{word-on, word-back}
 use borrow.Author.Needs.{needs}

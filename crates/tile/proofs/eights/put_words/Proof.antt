@@ -5,7 +5,7 @@ use native.Mathlib.Omega.{arith}
 use lib.ListN.{getD}
 use borrow.Author.Needs.{needs}
 use Rattle.words.proofs.Filling.{Filled, filled-none, filled-more, filled-all}
-use Rattle.words.specs.Eights.{bytesIn}
+use Rattle.words.specs.Inner.{bytesIn}
 use Rattle.tile.proofs.eights.put_words.Statement.{statement}
 use Rattle.tile.proofs.eights.put_words.Tie as tie
 

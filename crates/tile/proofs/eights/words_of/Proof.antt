@@ -4,7 +4,7 @@ use mathlib.Core.Bool.{false}
 use Prim.Native.Nat.{ℕ, _-_, _*_, _≤_}
 use native.Mathlib.Omega.{arith}
 use borrow.Author.Needs.{needs}
-use Rattle.words.specs.Eights.{wordAt}
+use Rattle.words.specs.Inner.{wordAt}
 use Rattle.tile.proofs.Filling.{Starts, starts-none, starts-more}
 use Rattle.tile.proofs.Sides.{words-read}
 use Rattle.tile.proofs.eights.words_of.Statement.{statement}

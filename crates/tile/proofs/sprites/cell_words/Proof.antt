@@ -6,7 +6,7 @@ use Prim.Native.Nat.{ℕ, _+_, _-_, _*_, _/_, _%_, _≤_}
 use native.Mathlib.Omega.{arith}
 use native.Mathlib.Nat.{mul-le-mul-right}
 use borrow.Author.Needs.{needs}
-use Rattle.words.specs.Eights.{wordAt}
+use Rattle.words.specs.Inner.{wordAt}
 use Rattle.tile.proofs.Filling.{Starts, starts-none, starts-more}
 use Rattle.tile.proofs.Sides.{cell-read}
 use Rattle.tile.proofs.sprites.cell_words.Statement.{statement}

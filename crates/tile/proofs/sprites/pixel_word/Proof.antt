@@ -1,9 +1,8 @@
 -- Where each of its bits comes from was computed.
 use mathlib.Core.Path.{ap, ap₂, _∙_}
-use mathlib.Core.List.{List, [], _∷_}
+use mathlib.Core.List.{[], _∷_}
 use Prim.Native.Nat.{ℕ, _*_, _/_, _%_, _^_}
 use lib.Bits.{bitAnd, bitOr}
-use lib.ListN.{getD}
 use borrow.Author.Needs.{needs}
 use Rattle.tile.specs.Inner.{quarter, beside, pixelBits}
 use Rattle.tile.proofs.Wiring.{value}

@@ -9,7 +9,7 @@ use lib.ListN.{length, getD}
 use lib.Seq.{sets, length-sets}
 use denote.Ref.{now}
 use borrow.Author.Needs.{needs}
-use Rattle.words.specs.Eights.{bytesIn}
+use Rattle.words.specs.Inner.{bytesIn}
 use Rattle.tile.specs.Inner.{storedAt}
 use Rattle.tile.proofs.sprites.put_cell_rows.Statement.{statement}
 use Rattle.tile.proofs.sprites.put_cell_rows.Tie as tie

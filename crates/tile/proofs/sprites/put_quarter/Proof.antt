@@ -4,10 +4,9 @@ use mathlib.Core.Bool.{false}
 use mathlib.Core.List.{List, [], _∷_}
 use Prim.Native.Nat.{ℕ, _+_, _-_, _≤_}
 use native.Mathlib.Omega.{arith}
-use lib.ListN.{length}
 use denote.Ref.{now}
 use borrow.Author.Needs.{needs}
-use Rattle.words.specs.Eights.{wordAt}
+use Rattle.words.specs.Inner.{wordAt}
 use Rattle.words.proofs.Filling.{Filled, filled-none, filled-one, filled-all}
 use Rattle.tile.specs.Inner.{Small, wordFrom, quarter, planesAt}
 use Rattle.tile.proofs.CellRows.{planes-small}

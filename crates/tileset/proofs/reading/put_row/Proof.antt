@@ -9,7 +9,7 @@ use lib.ListN.{length}
 use lib.Seq.{sets}
 use denote.Ref.{now}
 use borrow.Author.Needs.{needs}
-use Rattle.words.specs.Eights.{eight}
+use Rattle.words.specs.Inner.{eight}
 use Rattle.words.proofs.Filling.{Filled, filled-none, filled-more, filled-all}
 use Rattle.tileset.proofs.ReadingLaws.{eight-inside, row-eights}
 use Rattle.tileset.proofs.reading.put_row.Statement.{statement}

@@ -7,7 +7,7 @@ use native.Mathlib.Omega.{arith}
 use lib.ListN.{length}
 use denote.Ref.{now}
 use borrow.Author.Needs.{needs}
-use Rattle.words.specs.Eights.{eight}
+use Rattle.words.specs.Inner.{eight}
 use Rattle.words.proofs.Filling.{Filled, filled-none, filled-whole, filled-next}
 use Rattle.tileset.proofs.WritingLaws.{block-rows}
 use Rattle.tileset.proofs.writing.take_block.Statement.{statement}
