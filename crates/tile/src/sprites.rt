@@ -104,6 +104,7 @@ fn put_sprite_row(bytes: &[u8], width: usize, height: usize, y: usize, out: &mut
     }
 }
 
+// The pixels of a sprite.
 pub fn put_sprite_rows(bytes: &[u8], width: usize, height: usize, out: &mut [u8], at: usize)
     requires { ⌜ UnpacksWhole (Packing.Sprite width height) (now bytes) (now out) at ⌝ }
     ensures { λ _. ⌜ now (out .exit) ≡ sets (now (out .entry)) at (spread (sprite width height .pixels) (now (bytes .entry))) ⌝ }
