@@ -15,9 +15,6 @@ use Rattle.tile.proofs.Packed.{planar-words-are}
 use Rattle.tile.proofs.planes.put_planes.Statement.{statement}
 use Rattle.tile.proofs.planes.put_planes.Tie as tie
 
-words-of-requires : tie.Need-words-of-requires
-words-of-requires c κs = let h = c .before .before .pre .whole in (omega arith, omega arith)
-
 planar-words-requires : tie.Need-planar-words-requires
 planar-words-requires c κs =
     let s = c .before .before .before .before in
@@ -46,7 +43,7 @@ pub put-planes-spec : {M : Type 1} → statement M
 put-planes-spec =
     tie.close
     (tie.spec
-    words-of-requires
+    (λ c κs. search needs)
     planar-words-requires
     put-words-requires
     (λ c. search needs)

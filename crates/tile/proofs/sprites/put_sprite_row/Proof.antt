@@ -3,10 +3,9 @@ use mathlib.Core.Path.{_≡_, ap, _∙_}
 use mathlib.Core.List.{List, [], _∷_}
 use Prim.Native.Nat.{ℕ, _+_, _-_, _*_, _/_, _≤_, _<_}
 use native.Mathlib.Omega.{arith}
-use lib.ListN.{length, getD}
-use lib.Seq.{sets, length-sets}
+use lib.ListN.{getD}
+use lib.Seq.{sets}
 use borrow.Author.Needs.{needs}
-use Rattle.words.specs.Eights.{bytesIn}
 use Rattle.words.specs.Loops.{each}
 use Rattle.words.proofs.Filling.{Filled, filled-none}
 use Rattle.tile.specs.Layout.{element}
@@ -82,56 +81,13 @@ add-row-word c = omega (arith, inside c, size (start c) .few)
 row-word-requires : tie.Need-row-word-requires Inv-loop μ-loop
 row-word-requires c κs = omega (arith, inside c, start c .pre .1)
 
-mul-put-bytes : tie.Need-mul-put-bytes Inv-loop μ-loop
-mul-put-bytes c = omega (arith, start (c .before .before) .pre .3)
-
-add-put-bytes : tie.Need-add-put-bytes Inv-loop μ-loop
-add-put-bytes c = omega (arith, start (c .before .before) .pre .3)
-
-half-word-requires : tie.Need-half-word-requires Inv-loop μ-loop
-half-word-requires c κs = (c .before .row-word .ensures .1, omega arith)
-
-put-bytes-requires : tie.Need-put-bytes-requires Inv-loop μ-loop
-put-bytes-requires c κs = omega (arith, c .before .before .before .before .loop .inv .1 .long, start (c .before .before .before) .pre .3)
-
--- the second half, after the first was stored
-module _ (c : tie.After-put-bytes-arg2 Inv-loop μ-loop) where
-  abbrev first : tie.After-put-bytes Inv-loop μ-loop
-  first = c .before .before .before
-
-  abbrev read : tie.After-row-word Inv-loop μ-loop
-  read = first .before .before .before
-
-  space : start (turn read) .args .at + start (turn read) .args .width ≤ length (first .before .before .before .before .before .loop .out)
-  space = omega (arith, first .before .before .before .before .before .loop .inv .1 .long, start (turn read) .pre .3)
-
-mul-put-bytes-2 : tie.Need-mul-put-bytes-2 Inv-loop μ-loop
-mul-put-bytes-2 c = omega (arith, start (turn (read c)) .pre .3)
-
-add-put-bytes-2 : tie.Need-add-put-bytes-2 Inv-loop μ-loop
-add-put-bytes-2 c = omega (arith, start (turn (read c)) .pre .3)
-
-add-put-bytes-3 : tie.Need-add-put-bytes-3 Inv-loop μ-loop
-add-put-bytes-3 c = omega (arith, start (turn (read c)) .pre .3)
-
-half-word-requires-2 : tie.Need-half-word-requires-2 Inv-loop μ-loop
-half-word-requires-2 c κs = (read c .row-word .ensures .1, omega arith)
-
-put-bytes-requires-2 : tie.Need-put-bytes-requires-2 Inv-loop μ-loop
-put-bytes-requires-2 c κs =
-    let f = first (c .before) in
-    let l = f .before .before .before .before .before .loop in
-    let at = start (turn (read (c .before))) .args .at in
-    let same = ap length (f .put-bytes .ensures) ∙ length-sets (l .out) (at + l .x * 16) (bytesIn (f .before .half-word .result)) in
-    omega (arith, same, space (c .before))
-
 loop-less : tie.Need-loop-less Inv-loop μ-loop
 loop-less c = search needs
 
 loop-again : tie.Need-loop-again Inv-loop μ-loop
 loop-again c =
-    let f = first (c .before .before .before .before) in
-    let r = read (c .before .before .before .before) in
+    let f = c .before .before .before .before .before .before .before in
+    let r = f .before .before .before in
     let l = r .before .before .loop in
     let u = f .before .half-word in
     let v = c .before .before .before .half-word2 in (
@@ -140,9 +96,6 @@ loop-again c =
           (f .put-bytes .ensures) (half-is r 0 (u .result) (omega arith) (u .ensures))
           (c .before .before .put-bytes2 .ensures) (half-is r 1 (v .result) (omega arith) (v .ensures)),
     )
-
-same-length : tie.Need-same-length Inv-loop μ-loop
-same-length c = c .before .loop .inv .1 .long
 
 returns : tie.Need-returns Inv-loop μ-loop
 returns c =
@@ -166,17 +119,17 @@ put-sprite-row-spec =
     mul-row-word
     add-row-word
     row-word-requires
-    mul-put-bytes
-    add-put-bytes
-    half-word-requires
-    put-bytes-requires
-    mul-put-bytes-2
-    add-put-bytes-2
-    add-put-bytes-3
-    half-word-requires-2
-    put-bytes-requires-2
+    (λ c. search needs)
+    (λ c. search needs)
+    (λ c κs. search needs)
+    (λ c κs. search needs)
+    (λ c. search needs)
+    (λ c. search needs)
+    (λ c. search needs)
+    (λ c κs. search needs)
+    (λ c κs. search needs)
     (λ c. search needs)
     loop-less
     loop-again
-    same-length
+    (λ c. search needs)
     returns)

@@ -60,9 +60,6 @@ loop-again c =
     let filled = c .before .before .before .before .before .loop .inv .1 in
     (omega arith, filled-more (a .width) (λ y. length-ones (a .width) (λ x. pixel (y * a .width + x))) filled (c .before .before .put-sprite-row .ensures))
 
-same-length : tie.Need-same-length Inv-loop μ-loop
-same-length c = c .before .loop .inv .1 .long
-
 returns : tie.Need-returns Inv-loop μ-loop
 returns c =
     let a = c .before .before .before .before .args in
@@ -85,5 +82,5 @@ put-sprite-rows-spec =
     (λ c. search needs)
     loop-less
     loop-again
-    same-length
+    (λ c. search needs)
     returns)
