@@ -31,10 +31,11 @@ loop-less c = search needs
 
 loop-again : tie.Need-loop-again Inv-loop μ-loop
 loop-again c =
-    let l = c .before .before .before .before .before .before .before .loop in
-    let n = c .before .before .before .before .before .before .before .before .byte-count in
-    let ws = c .before .before .before .before .before .before .before .before .before .words-of in
-    let s = c .before .before .before .before .before .before .before .before .before .before .before .before in
+    let t = c .before .before .before .before .before .before .before in
+    let l = t .loop in
+    let n = t .before .byte-count in
+    let ws = t .before .before .words-of in
+    let s = t .before .before .before .before .before in
     let a = s .args in
     let w = c .before .before .before .chunky-word in
     let is = word-law (size s .fits) (a .tile .now) (ws .result) (l .b) (w .result) (ws .ensures) (omega (arith, n .ensures)) (w .ensures) in

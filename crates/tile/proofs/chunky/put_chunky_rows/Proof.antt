@@ -42,10 +42,11 @@ loop-less c = search needs
 
 loop-again : tie.Need-loop-again Inv-loop μ-loop
 loop-again c =
-    let l = c .before .before .before .before .before .before .before .loop in
-    let ws = c .before .before .before .before .before .before .before .before .words-of in
-    let n = c .before .before .before .before .before .before .before .before .before .byte-count in
-    let s = c .before .before .before .before .before .before .before .before .before .before .before .before in
+    let t = c .before .before .before .before .before .before .before in
+    let l = t .loop in
+    let ws = t .before .words-of in
+    let n = t .before .before .byte-count in
+    let s = t .before .before .before .before .before in
     let a = s .args in
     let w = c .before .before .before .chunky-row in
     let read = subst (λ (k : ℕ). WordsOf (a .bytes .now) (k / 8) (ws .result)) (n .ensures) (ws .ensures) in

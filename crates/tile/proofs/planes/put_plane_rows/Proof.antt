@@ -43,10 +43,11 @@ loop-less c = search needs
 
 loop-again : tie.Need-loop-again Inv-loop μ-loop
 loop-again c =
-    let s = c .before .before .before .before .before .before .before .before .before .before .before in
+    let t = c .before .before .before .before .before .before .before in
+    let s = t .before .before .before .before in
     let a = s .args in
-    let l = c .before .before .before .before .before .before .before .loop in
-    let ws = c .before .before .before .before .before .before .before .before .column-words in
+    let l = t .loop in
+    let ws = t .before .column-words in
     let w = c .before .before .before .planar-row in
     let long : length (a .bytes .now) ≡ a .depth * 8 = omega (arith, s .pre .whole) in
     let is = planar-row-is _ _ (s .pre .sound) (a .bytes .now) (ws .result) (l .r) (w .result) (ws .ensures) long (omega arith) (w .ensures) in

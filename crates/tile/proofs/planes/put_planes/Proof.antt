@@ -8,7 +8,6 @@ use lib.Seq.{sets}
 use borrow.Author.Needs.{needs}
 use Rattle.tile.specs.Layout.{element}
 use Rattle.tile.specs.Packings.{planar}
-use Rattle.tile.proofs.Wires.{part}
 use Rattle.tile.proofs.Filling.{words-are, spread-is}
 use Rattle.tile.proofs.Packings.{planes-of}
 use Rattle.tile.proofs.Packed.{planar-words-are}
@@ -28,11 +27,12 @@ put-words-requires c κs =
 
 returns : tie.Need-returns
 returns c =
-    let s = c .before .before .before .before .before .before .before .before .before .before in
+    let t = c .before .before .before .before .before in
+    let s = t .before .before .before .before .before in
     let a = s .args in
     let side = planar (a .group) (a .depth) 8 8 .bytes in
-    let ws = c .before .before .before .before .before .before .before .words-of in
-    let part = c .before .before .before .before .before .planar-words in
+    let ws = t .before .before .words-of in
+    let part = t .planar-words in
     c .before .before .put-words .ensures
     ∙ ap (λ (l : List ℕ). sets (a .out .now) (a .at) l)
     (words-are (element side (a .tile .now)) (a .depth) (part .result)

@@ -23,9 +23,10 @@ loop-less c = search needs
 
 loop-again : tie.Need-loop-again Inv-loop μ-loop
 loop-again c =
-    let a = c .before .before .before .before .before .before .before .before .before .before .before .args in
-    let l = c .before .before .before .before .before .before .before .loop in
-    let ws = c .before .before .before .before .before .before .before .before .cell-words in
+    let t = c .before .before .before .before .before .before .before in
+    let a = t .before .before .before .before .args in
+    let l = t .loop in
+    let ws = t .before .cell-words in
     let w = c .before .before .before .cell-word in
     let is = cell-word-is (a .tile .now) (ws .result) (a .from) (a .width) (l .b) (w .result) (ws .ensures) (omega arith) (w .ensures) in
     (omega arith, word-next (cellByte (a .tile .now) (a .from) (a .width)) (w .result) (l .inv .1) (c .before .before .put-bytes .ensures) is)
