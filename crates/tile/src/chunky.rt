@@ -147,6 +147,7 @@ fn chunky_row(ws: &[u64; 8], p: Packing, r: usize) -> u64
     }
 }
 
+// The pixels of such a tile.
 pub fn put_chunky_rows(p: Packing, bytes: &[u8], out: &mut [u8], at: usize)
     requires { ⌜ T (isChunky p) × UnpacksWhole p (now bytes) (now out) at ⌝ }
     ensures { λ _. ⌜ now (out .exit) ≡ sets (now (out .entry)) at (unpackedIn p (now (bytes .entry))) ⌝ }

@@ -144,6 +144,7 @@ fn planar_row(ws: &[u64; 8], group: usize, r: usize) -> u64
     four_row(ws, r)
 }
 
+// The pixels of a planar tile.
 pub fn put_plane_rows(bytes: &[u8], group: usize, depth: usize, out: &mut [u8], at: usize)
     requires { ⌜ UnpacksWhole (Packing.Planar group depth) (now bytes) (now out) at ⌝ }
     ensures { λ _. ⌜ now (out .exit) ≡ sets (now (out .entry)) at (spread (planar group depth 8 8 .pixels) (now (bytes .entry))) ⌝ }

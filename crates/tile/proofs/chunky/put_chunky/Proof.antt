@@ -23,44 +23,23 @@ size s = chunky-of (s .args .p) (s .pre .0)
 words-of-requires : tie.Need-words-of-requires Inv-loop μ-loop
 words-of-requires c κs = let s = c .before .before in (omega arith, omega (arith, s .pre .1 .whole, size s .pixels))
 
-byte-count-requires : tie.Need-byte-count-requires Inv-loop μ-loop
-byte-count-requires c κs = c .before .before .before .pre .1 .sound
-
 loop-holds : tie.Need-loop-holds Inv-loop μ-loop
 loop-holds c = (search needs, filled-none _ _ _)
-
-mul-put-bytes : tie.Need-mul-put-bytes Inv-loop μ-loop
-mul-put-bytes c = let s = c .before .before .before .before .before .before .before in omega (arith, c .before .before .before .byte-count .ensures, size s .few)
-
-add-put-bytes : tie.Need-add-put-bytes Inv-loop μ-loop
-add-put-bytes c = let s = c .before .before .before .before .before .before .before in omega (arith, c .before .before .before .byte-count .ensures, s .pre .1 .space)
-
-chunky-word-requires : tie.Need-chunky-word-requires Inv-loop μ-loop
-chunky-word-requires c κs =
-    let s = c .before .before .before .before .before .before .before .before in
-    (c .before .before .before .before .before .words-of .ensures .small, s .pre .0, omega (arith, c .before .before .before .before .byte-count .ensures))
-
-put-bytes-requires : tie.Need-put-bytes-requires Inv-loop μ-loop
-put-bytes-requires c κs =
-    let s = c .before .before .before .before .before .before .before .before .before in
-    omega (arith, c .before .before .before .before .loop .inv .1 .long, c .before .before .before .before .before .byte-count .ensures, s .pre .1 .space)
 
 loop-less : tie.Need-loop-less Inv-loop μ-loop
 loop-less c = search needs
 
 loop-again : tie.Need-loop-again Inv-loop μ-loop
 loop-again c =
-    let l = c .before .before .before .before .before .before .before .loop in
-    let n = c .before .before .before .before .before .before .before .before .byte-count in
-    let ws = c .before .before .before .before .before .before .before .before .before .words-of in
-    let s = c .before .before .before .before .before .before .before .before .before .before .before .before in
+    let t = c .before .before .before .before .before .before .before in
+    let l = t .loop in
+    let n = t .before .byte-count in
+    let ws = t .before .before .words-of in
+    let s = t .before .before .before .before .before in
     let a = s .args in
     let w = c .before .before .before .chunky-word in
     let is = word-law (size s .fits) (a .tile .now) (ws .result) (l .b) (w .result) (ws .ensures) (omega (arith, n .ensures)) (w .ensures) in
     (omega arith, word-next (element (layoutIn (a .p) .bytes) (a .tile .now)) (w .result) (l .inv .1) (c .before .before .put-bytes .ensures) is)
-
-same-length : tie.Need-same-length Inv-loop μ-loop
-same-length c = c .before .loop .inv .1 .long
 
 returns : tie.Need-returns Inv-loop μ-loop
 returns c =
@@ -76,14 +55,14 @@ put-chunky-spec =
     Inv-loop
     μ-loop
     words-of-requires
-    byte-count-requires
+    (λ c κs. search needs)
     loop-holds
-    mul-put-bytes
-    add-put-bytes
-    chunky-word-requires
-    put-bytes-requires
+    (λ c. search needs)
+    (λ c. search needs)
+    (λ c κs. search needs)
+    (λ c κs. search needs)
     (λ c. search needs)
     loop-less
     loop-again
-    same-length
+    (λ c. search needs)
     returns)

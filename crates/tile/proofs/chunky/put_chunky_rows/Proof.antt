@@ -28,19 +28,8 @@ words-of-requires c κs =
     let s = c .before .before .before in
     (omega (arith, n, size s .few), omega (arith, n, s .pre .1 .whole))
 
-byte-count-requires : tie.Need-byte-count-requires Inv-loop μ-loop
-byte-count-requires c κs = c .before .before .pre .1 .sound
-
 loop-holds : tie.Need-loop-holds Inv-loop μ-loop
 loop-holds c = (search needs, filled-none _ _ _)
-
-add-put-bytes : tie.Need-add-put-bytes Inv-loop μ-loop
-add-put-bytes c = let s = c .before .before .before .before .before .before .before in omega (arith, s .pre .1 .space, size s .pixels)
-
-chunky-row-requires : tie.Need-chunky-row-requires Inv-loop μ-loop
-chunky-row-requires c κs =
-    let s = c .before .before .before .before .before .before .before .before in
-    (c .before .before .before .before .words-of .ensures .small, s .pre .0, omega arith)
 
 put-bytes-requires : tie.Need-put-bytes-requires Inv-loop μ-loop
 put-bytes-requires c κs =
@@ -53,18 +42,16 @@ loop-less c = search needs
 
 loop-again : tie.Need-loop-again Inv-loop μ-loop
 loop-again c =
-    let l = c .before .before .before .before .before .before .before .loop in
-    let ws = c .before .before .before .before .before .before .before .before .words-of in
-    let n = c .before .before .before .before .before .before .before .before .before .byte-count in
-    let s = c .before .before .before .before .before .before .before .before .before .before .before .before in
+    let t = c .before .before .before .before .before .before .before in
+    let l = t .loop in
+    let ws = t .before .words-of in
+    let n = t .before .before .byte-count in
+    let s = t .before .before .before .before .before in
     let a = s .args in
     let w = c .before .before .before .chunky-row in
     let read = subst (λ (k : ℕ). WordsOf (a .bytes .now) (k / 8) (ws .result)) (n .ensures) (ws .ensures) in
     let is = row-law (size s .fits) (a .bytes .now) (ws .result) (l .r) (w .result) read (omega (arith, size s .pixels)) (w .ensures) in
     (omega arith, word-next (element (layoutIn (a .p) .pixels) (a .bytes .now)) (w .result) (l .inv .1) (c .before .before .put-bytes .ensures) is)
-
-same-length : tie.Need-same-length Inv-loop μ-loop
-same-length c = c .before .loop .inv .1 .long
 
 returns : tie.Need-returns Inv-loop μ-loop
 returns c =
@@ -78,15 +65,15 @@ put-chunky-rows-spec =
     (tie.spec
     Inv-loop
     μ-loop
-    byte-count-requires
+    (λ c κs. search needs)
     words-of-requires
     loop-holds
     (λ c. search needs)
-    add-put-bytes
-    chunky-row-requires
+    (λ c. search needs)
+    (λ c κs. search needs)
     put-bytes-requires
     (λ c. search needs)
     loop-less
     loop-again
-    same-length
+    (λ c. search needs)
     returns)

@@ -18,26 +18,11 @@ abbrev μ-loop : tie.MeasureT-loop
 loop-holds : tie.Need-loop-holds Inv-loop μ-loop
 loop-holds c = (search needs, filled-none _ _ _)
 
-mul-put-bytes : tie.Need-mul-put-bytes Inv-loop μ-loop
-mul-put-bytes c = let h = c .before .before .before .before .pre .0 in omega arith
-
-add-put-bytes : tie.Need-add-put-bytes Inv-loop μ-loop
-add-put-bytes c = let h = c .before .before .before .before .pre .1 in omega arith
-
-element-copy-out-put-bytes : tie.Need-element-copy-out-put-bytes Inv-loop μ-loop
-element-copy-out-put-bytes c = let h = c .before .before .before .before .pre .0 in omega arith
-
-put-bytes-requires : tie.Need-put-bytes-requires Inv-loop μ-loop
-put-bytes-requires c κs = let h = c .before .before .before .before .before .pre .1 in omega (arith, c .before .before .before .loop .inv .1 .long)
-
 loop-less : tie.Need-loop-less Inv-loop μ-loop
 loop-less c = search needs
 
 loop-again : tie.Need-loop-again Inv-loop μ-loop
 loop-again c = (omega arith, filled-more 8 (λ j. refl) (c .before .before .before .before .before .before .loop .inv .1) (c .before .before .put-bytes .ensures))
-
-same-length : tie.Need-same-length Inv-loop μ-loop
-same-length c = c .before .loop .inv .1 .long
 
 returns : tie.Need-returns Inv-loop μ-loop
 returns c = filled-all (c .before .before .before .args .n) (c .before .loop .inv .1) (omega arith)
@@ -49,13 +34,13 @@ put-words-spec =
     Inv-loop
     μ-loop
     loop-holds
-    mul-put-bytes
-    add-put-bytes
     (λ c. search needs)
-    element-copy-out-put-bytes
-    put-bytes-requires
+    (λ c. search needs)
+    (λ c. search needs)
+    (λ c. search needs)
+    (λ c κs. search needs)
     (λ c. search needs)
     loop-less
     loop-again
-    same-length
+    (λ c. search needs)
     returns)

@@ -18,12 +18,6 @@ abbrev μ-loop : tie.MeasureT-loop
 loop-holds : tie.Need-loop-holds Inv-loop μ-loop
 loop-holds c = (search needs, starts-none (turned (c .before .args .bytes .now)) _ tt)
 
-word-at-requires : tie.Need-word-at-requires Inv-loop μ-loop
-word-at-requires c κs = let h = c .before .before .before .pre .inside in omega arith
-
-array-write-ws : tie.Need-array-write-ws Inv-loop μ-loop
-array-write-ws c = let h = c .before .before .before .before .before .before .pre .few in omega arith
-
 loop-less : tie.Need-loop-less Inv-loop μ-loop
 loop-less c = search needs
 
@@ -51,11 +45,11 @@ column-words-spec =
     μ-loop
     loop-holds
     (λ c. search needs)
-    word-at-requires
+    (λ c κs. search needs)
     (λ c κs. search needs)
     (λ c κs. search needs)
     (λ c. search needs)
-    array-write-ws
+    (λ c. search needs)
     (λ c. search needs)
     loop-less
     loop-again

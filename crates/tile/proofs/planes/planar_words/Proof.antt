@@ -17,9 +17,6 @@ abbrev μ-loop : tie.MeasureT-loop
 loop-holds : tie.Need-loop-holds Inv-loop μ-loop
 loop-holds c = let a = c .args in (search needs, starts-none (wordFrom (planar (a .group) 8 8 8 .bytes) (a .ws .now)) _ tt)
 
-array-write-part : tie.Need-array-write-part Inv-loop μ-loop
-array-write-part c = let h = c .before .before .before .pre .2 in omega arith
-
 loop-less : tie.Need-loop-less Inv-loop μ-loop
 loop-less c = search needs
 
@@ -43,7 +40,7 @@ planar-words-spec =
     loop-holds
     (λ c κs. search needs)
     (λ c. search needs)
-    array-write-part
+    (λ c. search needs)
     (λ c. search needs)
     loop-less
     loop-again

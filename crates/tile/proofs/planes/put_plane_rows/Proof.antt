@@ -33,37 +33,26 @@ column-words-requires c κs =
 loop-holds : tie.Need-loop-holds Inv-loop μ-loop
 loop-holds c = (search needs, filled-none _ _ _)
 
-add-put-bytes : tie.Need-add-put-bytes Inv-loop μ-loop
-add-put-bytes c = omega (arith, c .before .before .before .before .before .before .pre .space)
-
 planar-row-requires : tie.Need-planar-row-requires Inv-loop μ-loop
 planar-row-requires c κs =
     let s = c .before .before .before .before .before .before .before in
     (c .before .before .before .before .column-words .ensures .small, planes s .group, omega arith)
-
-put-bytes-requires : tie.Need-put-bytes-requires Inv-loop μ-loop
-put-bytes-requires c κs =
-    let filled = c .before .before .before .before .loop .inv .1 in
-    let s = c .before .before .before .before .before .before .before .before in
-    omega (arith, filled .long, s .pre .space)
 
 loop-less : tie.Need-loop-less Inv-loop μ-loop
 loop-less c = search needs
 
 loop-again : tie.Need-loop-again Inv-loop μ-loop
 loop-again c =
-    let s = c .before .before .before .before .before .before .before .before .before .before .before in
+    let t = c .before .before .before .before .before .before .before in
+    let s = t .before .before .before .before in
     let a = s .args in
-    let l = c .before .before .before .before .before .before .before .loop in
-    let ws = c .before .before .before .before .before .before .before .before .column-words in
+    let l = t .loop in
+    let ws = t .before .column-words in
     let w = c .before .before .before .planar-row in
     let long : length (a .bytes .now) ≡ a .depth * 8 = omega (arith, s .pre .whole) in
     let is = planar-row-is _ _ (s .pre .sound) (a .bytes .now) (ws .result) (l .r) (w .result) (ws .ensures) long (omega arith) (w .ensures) in
     let side = planar (a .group) (a .depth) 8 8 .pixels in
     (omega arith, word-next (element side (a .bytes .now)) (w .result) (l .inv .1) (c .before .before .put-bytes .ensures) is)
-
-same-length : tie.Need-same-length Inv-loop μ-loop
-same-length c = c .before .loop .inv .1 .long
 
 returns : tie.Need-returns Inv-loop μ-loop
 returns c =
@@ -79,11 +68,11 @@ put-plane-rows-spec =
     column-words-requires
     loop-holds
     (λ c. search needs)
-    add-put-bytes
+    (λ c. search needs)
     planar-row-requires
-    put-bytes-requires
+    (λ c κs. search needs)
     (λ c. search needs)
     loop-less
     loop-again
-    same-length
+    (λ c. search needs)
     returns)

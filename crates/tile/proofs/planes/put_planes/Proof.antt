@@ -8,15 +8,11 @@ use lib.Seq.{sets}
 use borrow.Author.Needs.{needs}
 use Rattle.tile.specs.Layout.{element}
 use Rattle.tile.specs.Packings.{planar}
-use Rattle.tile.proofs.Wires.{part}
 use Rattle.tile.proofs.Filling.{words-are, spread-is}
 use Rattle.tile.proofs.Packings.{planes-of}
 use Rattle.tile.proofs.Packed.{planar-words-are}
 use Rattle.tile.proofs.planes.put_planes.Statement.{statement}
 use Rattle.tile.proofs.planes.put_planes.Tie as tie
-
-words-of-requires : tie.Need-words-of-requires
-words-of-requires c κs = let h = c .before .before .pre .whole in (omega arith, omega arith)
 
 planar-words-requires : tie.Need-planar-words-requires
 planar-words-requires c κs =
@@ -31,11 +27,12 @@ put-words-requires c κs =
 
 returns : tie.Need-returns
 returns c =
-    let s = c .before .before .before .before .before .before .before .before .before .before in
+    let t = c .before .before .before .before .before in
+    let s = t .before .before .before .before .before in
     let a = s .args in
     let side = planar (a .group) (a .depth) 8 8 .bytes in
-    let ws = c .before .before .before .before .before .before .before .words-of in
-    let part = c .before .before .before .before .before .planar-words in
+    let ws = t .before .before .words-of in
+    let part = t .planar-words in
     c .before .before .put-words .ensures
     ∙ ap (λ (l : List ℕ). sets (a .out .now) (a .at) l)
     (words-are (element side (a .tile .now)) (a .depth) (part .result)
@@ -46,7 +43,7 @@ pub put-planes-spec : {M : Type 1} → statement M
 put-planes-spec =
     tie.close
     (tie.spec
-    words-of-requires
+    (λ c κs. search needs)
     planar-words-requires
     put-words-requires
     (λ c. search needs)

@@ -15,35 +15,21 @@ Inv-loop tile from width out₀ at ws b₀ out b = (b ≤ 16) × Filled (run (ce
 abbrev μ-loop : tie.MeasureT-loop
 μ-loop tile from width out₀ at ws b₀ out b = 16 - b
 
-cell-words-requires : tie.Need-cell-words-requires Inv-loop μ-loop
-cell-words-requires c κs = let h = c .before .before .pre in (h .0, h .1)
-
 loop-holds : tie.Need-loop-holds Inv-loop μ-loop
 loop-holds c = (search needs, filled-none _ _ _)
-
-add-put-bytes : tie.Need-add-put-bytes Inv-loop μ-loop
-add-put-bytes c = omega (arith, c .before .before .before .before .before .before .pre .2)
-
-cell-word-requires : tie.Need-cell-word-requires Inv-loop μ-loop
-cell-word-requires c κs = (c .before .before .before .before .cell-words .ensures .small, omega arith)
-
-put-bytes-requires : tie.Need-put-bytes-requires Inv-loop μ-loop
-put-bytes-requires c κs = omega (arith, c .before .before .before .before .loop .inv .1 .long, c .before .before .before .before .before .before .before .before .pre .2)
 
 loop-less : tie.Need-loop-less Inv-loop μ-loop
 loop-less c = search needs
 
 loop-again : tie.Need-loop-again Inv-loop μ-loop
 loop-again c =
-    let a = c .before .before .before .before .before .before .before .before .before .before .before .args in
-    let l = c .before .before .before .before .before .before .before .loop in
-    let ws = c .before .before .before .before .before .before .before .before .cell-words in
+    let t = c .before .before .before .before .before .before .before in
+    let a = t .before .before .before .before .args in
+    let l = t .loop in
+    let ws = t .before .cell-words in
     let w = c .before .before .before .cell-word in
     let is = cell-word-is (a .tile .now) (ws .result) (a .from) (a .width) (l .b) (w .result) (ws .ensures) (omega arith) (w .ensures) in
     (omega arith, word-next (cellByte (a .tile .now) (a .from) (a .width)) (w .result) (l .inv .1) (c .before .before .put-bytes .ensures) is)
-
-same-length : tie.Need-same-length Inv-loop μ-loop
-same-length c = c .before .loop .inv .1 .long
 
 returns : tie.Need-returns Inv-loop μ-loop
 returns c =
@@ -56,14 +42,14 @@ put-cell-spec =
     (tie.spec
     Inv-loop
     μ-loop
-    cell-words-requires
+    (λ c κs. search needs)
     loop-holds
     (λ c. search needs)
-    add-put-bytes
-    cell-word-requires
-    put-bytes-requires
+    (λ c. search needs)
+    (λ c κs. search needs)
+    (λ c κs. search needs)
     (λ c. search needs)
     loop-less
     loop-again
-    same-length
+    (λ c. search needs)
     returns)

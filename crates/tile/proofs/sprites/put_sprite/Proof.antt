@@ -93,9 +93,6 @@ loop-again c =
     let stored = c .before .before .put-cell .ensures ∙ ap (λ (x : List ℕ). sets (l .out) (a .at + l .c * 128) x) is in
     (omega arith, filled-more 128 (λ i. length-ones 128 (λ k. byte (i * 128 + k))) (l .inv .1) stored)
 
-same-length : tie.Need-same-length Inv-loop μ-loop
-same-length c = c .before .loop .inv .1 .long
-
 returns : tie.Need-returns Inv-loop μ-loop
 returns c =
     let s = c .before .before .before .before in
@@ -125,5 +122,5 @@ put-sprite-spec =
     add-c
     loop-less
     loop-again
-    same-length
+    (λ c. search needs)
     returns)

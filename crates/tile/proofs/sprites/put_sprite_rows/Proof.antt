@@ -123,9 +123,6 @@ loop-again c =
           (subst (λ (k : ℕ). Scattered (spriteTurn (w s) (h s)) f (now (a .out)) (a .at) (w s * h s / 8) k then) next more),
     )
 
-same-length : tie.Need-same-length Inv-loop μ-loop
-same-length c = c .before .loop .inv .1 .long
-
 returns : tie.Need-returns Inv-loop μ-loop
 returns c =
     let l = c .before in
@@ -157,5 +154,5 @@ put-sprite-rows-spec =
     add-c
     loop-less
     loop-again
-    same-length
+    (λ c. search needs)
     returns)
