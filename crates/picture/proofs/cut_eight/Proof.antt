@@ -38,9 +38,6 @@ loop-again c =
           (c .low .ensures ∙ ap (λ (k : ℕ). k % 2 ^ a .depth) (c .before .wide .ensures .0)),
     )
 
-same-length : tie.Need-same-length Inv-loop μ-loop
-same-length c = c .before .loop .inv .1 .long
-
 returns : tie.Need-returns Inv-loop μ-loop
 returns c = filled-all 8 (c .before .loop .inv .1) (omega arith)
 
@@ -61,5 +58,5 @@ cut-eight-spec =
     (λ c. search needs)
     loop-less
     loop-again
-    same-length
+    (λ c. search needs)
     returns)

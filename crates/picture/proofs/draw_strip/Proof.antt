@@ -90,9 +90,6 @@ loop-again c =
           (c .before .before .draw-tile .ensures ∙ ap (λ (e : Mapentry). sets (lp .out) (lp .x * 64) (drawnTile (a .mode) (a .depth) (now (a .tiles)) e)) (read e)),
     )
 
-same-length : tie.Need-same-length Inv-loop μ-loop
-same-length c = c .before .loop .inv .1 .long
-
 returns : tie.Need-returns Inv-loop μ-loop
 returns c = filled-all (c .before .before .before .before .before .before .args .columns) (c .before .loop .inv .1) (omega arith)
 
@@ -112,5 +109,5 @@ draw-strip-spec =
     (λ c. search needs)
     loop-less
     loop-again
-    same-length
+    (λ c. search needs)
     returns)

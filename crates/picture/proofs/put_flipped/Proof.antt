@@ -41,9 +41,6 @@ loop-again c =
           ∙ ap (λ (k : ℕ). sets (l .out) (a .at + l .y * 8) (eight (a .f .h) (now (a .tile)) (k * 8))) (t .turned .ensures .0)),
     )
 
-same-length : tie.Need-same-length Inv-loop μ-loop
-same-length c = c .before .loop .inv .1 .long
-
 returns : tie.Need-returns Inv-loop μ-loop
 returns c =
     let a = c .before .before .before .before .args in
@@ -64,5 +61,5 @@ put-flipped-spec =
     (λ c. search needs)
     loop-less
     loop-again
-    same-length
+    (λ c. search needs)
     returns)

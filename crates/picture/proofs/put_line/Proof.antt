@@ -46,9 +46,6 @@ loop-again : tie.Need-loop-again Inv-loop μ-loop
 loop-again c =
     (omega arith, filled-more 8 (λ x. refl) (c .before .before .before .before .before .loop .inv .1) (c .before .before .put-eight .ensures))
 
-same-length : tie.Need-same-length Inv-loop μ-loop
-same-length c = c .before .loop .inv .1 .long
-
 returns : tie.Need-returns Inv-loop μ-loop
 returns c = filled-all (c .before .before .before .before .args .columns) (c .before .loop .inv .1) (omega arith)
 
@@ -68,5 +65,5 @@ put-line-spec =
     (λ c. search needs)
     loop-less
     loop-again
-    same-length
+    (λ c. search needs)
     returns)

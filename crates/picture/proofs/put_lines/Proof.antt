@@ -52,9 +52,6 @@ loop-again c =
     let a = start t .args in
     (omega arith, filled-more (a .columns * 8) (line-length (now (a .strip)) (a .columns)) (t .before .loop .inv .1) (c .before .before .put-line .ensures))
 
-same-length : tie.Need-same-length Inv-loop μ-loop
-same-length c = c .before .loop .inv .1 .long
-
 returns : tie.Need-returns Inv-loop μ-loop
 returns c = filled-all 8 (c .before .loop .inv .1) (omega arith)
 
@@ -72,5 +69,5 @@ put-lines-spec =
     (λ c. search needs)
     loop-less
     loop-again
-    same-length
+    (λ c. search needs)
     returns)

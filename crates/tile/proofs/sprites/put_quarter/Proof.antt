@@ -61,9 +61,6 @@ loop-again c =
     let l = c .before .before in
     (search needs, filled-one (l .loop .inv .1) (c .pixel-word .ensures ∙ ap (λ (ws : List ℕ). wordFrom quarter ws (l .loop .k)) (read-is (l .before))))
 
-same-length : tie.Need-same-length Inv-loop μ-loop
-same-length c = c .before .loop .inv .1 .long
-
 returns : tie.Need-returns Inv-loop μ-loop
 returns c = filled-all 8 (c .before .loop .inv .1) (omega arith)
 
@@ -88,5 +85,5 @@ put-quarter-spec =
     (λ c. search needs)
     loop-less
     loop-again
-    same-length
+    (λ c. search needs)
     returns)

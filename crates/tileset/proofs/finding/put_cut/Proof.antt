@@ -36,9 +36,6 @@ loop-again c =
     let depth = lp .before .before .before .args .depth in
     (search needs, filled-one (lp .loop .inv .1) (c .low .ensures ∙ ap (λ (k : ℕ). k % 2 ^ depth) (c .before .wide .ensures .0)))
 
-same-length : tie.Need-same-length Inv-loop μ-loop
-same-length c = c .before .loop .inv .1 .long
-
 returns : tie.Need-returns Inv-loop μ-loop
 returns c =
     let a = c .before .before .before .before .args in
@@ -61,5 +58,5 @@ put-cut-spec =
     (λ c. search needs)
     loop-less
     loop-again
-    same-length
+    (λ c. search needs)
     returns)
