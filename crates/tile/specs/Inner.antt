@@ -126,10 +126,6 @@ wordFrom s ws b =
     (λ j. gate (ltb (j % 8) (s .bits))
     (bitOf (s .from (b * 8 + j / 8) (j % 8) % 8 * 8 + s .place (b * 8 + j / 8) (j % 8)) (getD ws (s .from (b * 8 + j / 8) (j % 8) / 8) 0)))
 
--- The first n words of a side.
-abbrev pub WordsFrom : Side → List ℕ → ℕ → List ℕ → Type 0
-WordsFrom s ws n vs = (i : ℕ) → i < n → getD vs i 0 ≡ wordFrom s ws i
-
 -- The bytes of a word are f's from 8 * b on; and those of n words are its first.
 abbrev pub HasWord : (ℕ → ℕ) → ℕ → ℕ → Type 0
 HasWord f b w = (m : ℕ) → m < 8 → byteIn w m ≡ f (b * 8 + m)

@@ -6,11 +6,11 @@ use crate::eights::put_words;
 use crate::eights::reverse_bytes;
 use crate::eights::words_of;
 ghost use mathlib.Core.Path.{_≡_};
-ghost use Prim.Native.Nat.{_<_, _≤_};
+ghost use Prim.Native.Nat.{_<_};
 ghost use lib.Seq.{sets};
 ghost use Rattle.tile.specs.Layout.{spread};
 ghost use Rattle.tile.specs.Packings.{planar};
-ghost use Rattle.tile.specs.Inner.{PacksWhole, UnpacksWhole, Group, Small, WordsIn, Columns, wordFrom, WordsFrom, strands};
+ghost use Rattle.tile.specs.Inner.{PacksWhole, UnpacksWhole, Group, Small, WordsIn, Columns, wordFrom, strands};
 
 // Eight bytes of a planar tile whose rows are the words ws: with planes alone, one bit of each pixel of the eight rows; in pairs two bits of four
 // rows; in fours four bits of two.
@@ -60,27 +60,18 @@ fn planar_word(ws: &[u64; 8], group: usize, b: usize) -> u64
     four_word(ws, b)
 }
 
-// The first n words of a planar tile whose rows are the words ws.
-fn planar_words(ws: &[u64; 8], group: usize, n: usize) -> [u64; 8]
-    requires { ⌜ Small (now ws) × Group group × (n ≤ 8) ⌝ }
-    ensures { λ r. ⌜ WordsFrom (planar group 8 8 8 .bytes) (now (ws .entry)) n r ⌝ }
-{
-    let mut part = [0u64; 8];
-    let mut b = 0;
-    while b < n {
-        part[b] = planar_word(ws, group, b);
-        b += 1;
-    }
-    part
-}
-
 // The bytes of a planar tile. The words are made before the first is stored: stored one by one, each is made byte by byte.
 pub fn put_planes(tile: &[u8], group: usize, depth: usize, out: &mut [u8], at: usize)
     requires { ⌜ PacksWhole (Packing.Planar group depth) (now tile) (now out) at ⌝ }
     ensures { λ _. ⌜ now (out .exit) ≡ sets (now (out .entry)) at (spread (planar group depth 8 8 .bytes) (now (tile .entry))) ⌝ }
 {
     let ws = words_of(tile, 8);
-    let part = planar_words(&ws, group, depth);
+    let mut part = [0u64; 8];
+    let mut b = 0;
+    while b < depth {
+        part[b] = planar_word(&ws, group, b);
+        b += 1;
+    }
     put_words(out, at, &part, depth);
 }
 
