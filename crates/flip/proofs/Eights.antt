@@ -44,7 +44,8 @@ module _ (across : Bool) (store tile : List ℕ) (from i w x : ℕ) (room : x + 
         ∙ sym given)
 
     -- eight pixels more that agree
-    pub eight-agrees : ((k : ℕ) → getD store k 0 < 256) → ((k : ℕ) → getD tile k 0 < 256) → r ≡ s → ((k : ℕ) → k < x → getD store (from + turned across w k) 0 ≡ getD tile (i + k) 0)
+    pub eight-agrees : ((k : ℕ) → getD store k 0 < 256) → ((k : ℕ) → getD tile k 0 < 256) → r ≡ s
+        → ((k : ℕ) → k < x → getD store (from + turned across w k) 0 ≡ getD tile (i + k) 0)
         → (k : ℕ) → k < x + 8 → getD store (from + turned across w k) 0 ≡ getD tile (i + k) 0
     eight-agrees small less e before k p =
         ⊎-elim (λ (q : k + 1 - x ≡ 0). before k (omega arith))

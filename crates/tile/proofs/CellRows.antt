@@ -1,6 +1,6 @@
 -- What the words of a sprite's cell hold, and where its rows stand among the sprite's pixels, by one test over the six sizes.
 -- Assumes nothing.
-use mathlib.Core.Path.{_≡_, refl, sym, ap, ap₂, _∙_}
+use mathlib.Core.Path.{_≡_, refl, sym, ap, ap₂, _∙_, subst}
 use mathlib.Core.Bool.{Bool, false, _&&_}
 use mathlib.Core.List.{List}
 use Prim.Native.Nat.{ℕ, zero, suc, _+_, _*_, _/_, _%_, _<_}
@@ -19,6 +19,7 @@ use Rattle.tile.specs.Inner.{isPacking, byteOf, Small, wordFrom, HasWord
 use Rattle.tile.specs.declared.Packing.the-variants.{Sprite}
 use Rattle.tile.proofs.Bits.{bits-same}
 use Rattle.tile.proofs.Packings.{sizes-at, cellFrom}
+use Rattle.tile.proofs.Scattered.{Turns}
 use Rattle.tile.proofs.Sides.{word-byte}
 
 -- ---- the words of a cell: word t has the pixels of byte t of each plane
@@ -110,14 +111,18 @@ module _ (w h : ℕ) (sound : T (isPacking (Sprite w h))) where
     tested : T (placed && (there && pixels))
     tested = all-at 32 (wordTest w h c) (all-at (w / 16 * (h / 16)) (λ c. all 32 (wordTest w h c)) (words-at w h sound) c lc) t lt
 
-    pub word-place : cellFrom w h c + t / 2 * w + t % 2 * 8 ≡ spriteWord w h c t * 8
+    rest : T (there && pixels)
+    rest = both-right placed (there && pixels) tested
+
+    word-place : cellFrom w h c + t / 2 * w + t % 2 * 8 ≡ spriteWord w h c t * 8
     word-place = eqb→eq _ _ (both-left placed (there && pixels) tested)
 
-    pub word-inside : spriteWord w h c t < w * h / 8
-    word-inside = ltb→lt _ _ (both-left there pixels (both-right placed (there && pixels) tested))
+    word-inside : spriteWord w h c t < w * h / 8
+    word-inside = ltb→lt _ _ (both-left there pixels rest)
 
     -- its pixels are those of byte t of each plane of the cell
-    pub cell-word-is : (bs : List ℕ) → ((i : ℕ) → getD bs i 0 < 256) → HasWord (element (sprite w h .pixels) bs) (spriteWord w h c t) (getD (cellWords bs (c * 128)) t 0)
+    cell-word-is : (bs : List ℕ) → ((i : ℕ) → getD bs i 0 < 256)
+        → HasWord (element (sprite w h .pixels) bs) (spriteWord w h c t) (getD (cellWords bs (c * 128)) t 0)
     cell-word-is bs small m lm =
         let i = spriteWord w h c t * 8 + m in
         cell-pixel bs small (c * 128) t m lt lm
@@ -125,7 +130,8 @@ module _ (w h : ℕ) (sound : T (isPacking (Sprite w h))) where
         (λ p a lp.
         let a = eqb (c * 128 + t + p * 32) (spriteByte h (i % w) (i / w) p) in
         let b = eqb m (i % w % 8) in
-        let test : T (a && b) = all-at 4 (pixelTest w h c t m) (all-at 8 (λ m. all 4 (pixelTest w h c t m)) (both-right there pixels (both-right placed (there && pixels) tested)) m lm) p (omega arith) in
+        let pixel : T (all 4 (pixelTest w h c t m)) = all-at 8 (λ m. all 4 (pixelTest w h c t m)) (both-right there pixels rest) m lm in
+        let test : T (a && b) = all-at 4 (pixelTest w h c t m) pixel p (omega arith) in
         ap₂ (λ (k q : ℕ). bitOf q (getD bs k 0)) (eqb→eq _ _ (both-left a b test)) (eqb→eq _ _ (both-right a b test)))
 
   module _ (i : ℕ) (li : i < w * h / 8) where
@@ -141,8 +147,20 @@ module _ (w h : ℕ) (sound : T (isPacking (Sprite w h))) where
     pub turn-soon : spriteTurn w h i < w / 16 * (h / 16) * 32
     turn-soon = ltb→lt _ _ (both-left soon back turned)
 
-    pub turn-its : (c t : ℕ) → t < 32 → spriteTurn w h i ≡ c * 32 + t → i ≡ spriteWord w h c t
+    turn-its : (c t : ℕ) → t < 32 → spriteTurn w h i ≡ c * 32 + t → i ≡ spriteWord w h c t
     turn-its c t lt e =
         let cell : spriteTurn w h i / 32 ≡ c = omega arith in
         let word : spriteTurn w h i % 32 ≡ t = omega arith in
         eqb→eq _ _ (both-right soon back turned) ∙ ap₂ (spriteWord w h) cell word
+
+  -- so the words of a cell have their turns one after the other
+  pub cell-turns : (c at : ℕ) (bs ws : List ℕ) → c < w / 16 * (h / 16) → ((i : ℕ) → getD bs i 0 < 256) → ws ≡ cellWords bs (c * 128)
+      → Turns (spriteTurn w h) (element (sprite w h .pixels) bs) at (w * h / 8) (c * 32) 32 (λ t. at + cellFrom w h c + t / 2 * w + t % 2 * 8) (λ t. getD ws t 0)
+      (spriteWord w h c)
+  cell-turns c at bs ws lc small e =
+      record {
+        placed = λ t lt. omega (arith, word-place c t lc lt);
+        inside = λ t lt. word-inside c t lc lt;
+        its = λ t i lt li q. turn-its i li c t lt q;
+        has = λ t lt. subst (λ (l : List ℕ). HasWord (element (sprite w h .pixels) bs) (spriteWord w h c t) (getD l t 0)) (sym e) (cell-word-is c t lc lt bs small);
+      }

@@ -49,9 +49,26 @@ pub scattered-none : (turn f : ℕ → ℕ) (out : List ℕ) (at n : ℕ) → Sc
 scattered-none turn f out at n =
     record { long = refl; put = λ i m li lm lt. absurd (not-suc-le-zero lt); before = λ k lt. refl; behind = λ k le. refl }
 
+-- k words from turn s on: word t of them is word which t of f, goes to its place, and has turn s + t
+pub record Turns (turn f : ℕ → ℕ) (at n s k : ℕ) (place word which : ℕ → ℕ) : Type 0 where
+  pub placed : (t : ℕ) → t < k → place t ≡ at + which t * 8
+  pub inside : (t : ℕ) → t < k → which t < n
+  pub its : (t i : ℕ) → t < k → i < n → turn i ≡ s + t → i ≡ which t
+  pub has : (t : ℕ) → t < k → HasWord f (which t) (word t)
+
+fewer : {turn f : ℕ → ℕ} {at n s k : ℕ} {place word which : ℕ → ℕ} → Turns turn f at n s (suc k) place word which → Turns turn f at n s k place word which
+fewer h =
+    record {
+      placed = λ t l. h .placed t (omega arith);
+      inside = λ t l. h .inside t (omega arith);
+      its = λ t i l. h .its t i (omega arith);
+      has = λ t l. h .has t (omega arith);
+    }
+
 module _ {turn f : ℕ → ℕ} {out : List ℕ} {at n : ℕ} (space : at + n * 8 ≤ length out) where
   -- word j at its place, whose turn it is
-  module _ {s : ℕ} {now : List ℕ} (h : Scattered turn f out at n s now) (j w : ℕ) (lj : j < n) (its : (i : ℕ) → i < n → turn i ≡ s → i ≡ j) (has : HasWord f j w) where
+  module _ {s : ℕ} {now : List ℕ} (h : Scattered turn f out at n s now) (j w : ℕ) (lj : j < n) (its : (i : ℕ) → i < n → turn i ≡ s → i ≡ j)
+      (has : HasWord f j w) where
     abbrev then : List ℕ
     then = sets now (at + j * 8) (bytesIn w)
 
@@ -60,7 +77,8 @@ module _ {turn f : ℕ → ℕ} {out : List ℕ} {at n : ℕ} (space : at + n * 
 
     other-word : (i m : ℕ) → i < n → m < 8 → turn i < s + 1 → (i ≡ j → ⊥) → getD now (at + i * 8 + m) 0 ≡ f (i * 8 + m)
     other-word i m li lm lt other =
-        ⊎-elim (λ (e : turn i ≡ s). absurd (other (its i li e))) (λ (l : turn i < s). h .put i m li lm l) (eq-or-lt-of-le (le-of-suc-le-suc (subst (λ (q : ℕ). turn i < q) (add-one s) lt)))
+        ⊎-elim (λ (e : turn i ≡ s). absurd (other (its i li e))) (λ (l : turn i < s). h .put i m li lm l)
+        (eq-or-lt-of-le (le-of-suc-le-suc (subst (λ (q : ℕ). turn i < q) (add-one s) lt)))
 
     put-then : (i m : ℕ) → i < n → m < 8 → turn i < s + 1 → getD then (at + i * 8 + m) 0 ≡ f (i * 8 + m)
     put-then i m li lm lt =
@@ -82,22 +100,27 @@ module _ {turn f : ℕ → ℕ} {out : List ℕ} {at n : ℕ} (space : at + n * 
         }
 
   -- words stored one after the other, each when it is its turn
-  pub scattered-more : (k : ℕ) {s : ℕ} {now : List ℕ} (place word at-word : ℕ → ℕ) → Scattered turn f out at n s now
-      → ((t : ℕ) → t < k → place t ≡ at + at-word t * 8) → ((t : ℕ) → t < k → at-word t < n)
-      → ((t i : ℕ) → t < k → i < n → turn i ≡ s + t → i ≡ at-word t) → ((t : ℕ) → t < k → HasWord f (at-word t) (word t))
+  scattered-more : (k : ℕ) {s : ℕ} {now : List ℕ} {place word which : ℕ → ℕ} → Scattered turn f out at n s now → Turns turn f at n s k place word which
       → Scattered turn f out at n (s + k) (storedAt k place word now)
   unfolding storedAt
-  scattered-more zero {s} {now} place word at-word h places inside its has = subst (λ (q : ℕ). Scattered turn f out at n q now) (sym (add-zero s)) h
-  scattered-more (suc k) {s} {now} place word at-word h places inside its has =
-      let last = scattered-more k place word at-word h (λ t l. places t (omega arith)) (λ t l. inside t (omega arith)) (λ t i l. its t i (omega arith)) (λ t l. has t (omega arith)) in
+  scattered-more zero {s} {now} h turns = subst (λ (q : ℕ). Scattered turn f out at n q now) (sym (add-zero s)) h
+  scattered-more (suc k) {s} {now} {place} {word} {which} h turns =
       let lt : k < suc k = omega arith in
       let e : s + k + 1 ≡ s + suc k = omega arith in
-      subst (λ (q : ℕ). Scattered turn f out at n q (sets (storedAt k place word now) (place k) (bytesIn (word k)))) e
-      (subst (λ (p : ℕ). Scattered turn f out at n (s + k + 1) (sets (storedAt k place word now) p (bytesIn (word k)))) (sym (places k lt))
-      (scattered-next last (at-word k) (word k) (inside k lt) (λ i li q. its k i lt li q) (has k lt)))
+      let so-far = storedAt k place word now in
+      let next = scattered-next (scattered-more k h (fewer turns)) (which k) (word k) (turns .inside k lt) (λ i. turns .its k i lt) (turns .has k lt) in
+      subst (λ (q : ℕ). Scattered turn f out at n q (sets so-far (place k) (bytesIn (word k)))) e
+      (subst (λ (p : ℕ). Scattered turn f out at n (s + k + 1) (sets so-far p (bytesIn (word k)))) (sym (turns .placed k lt)) next)
+
+  pub scattered-then : (k : ℕ) {s e : ℕ} {now then : List ℕ} {place word which : ℕ → ℕ} → Scattered turn f out at n s now
+      → Turns turn f at n s k place word which → s + k ≡ e → then ≡ storedAt k place word now → Scattered turn f out at n e then
+  scattered-then k {s} {e} {now} {then} {place} {word} h turns q is =
+      subst (λ (l : List ℕ). Scattered turn f out at n e l) (sym is)
+      (subst (λ (i : ℕ). Scattered turn f out at n i (storedAt k place word now)) q (scattered-more k h turns))
 
   -- all of them
-  pub scattered-all : {s : ℕ} {now : List ℕ} → Scattered turn f out at n s now → ((i : ℕ) → i < n → turn i < s) → now ≡ sets out at (each (n * 8) (λ k. f k ∷ []))
+  pub scattered-all : {s : ℕ} {now : List ℕ} → Scattered turn f out at n s now → ((i : ℕ) → i < n → turn i < s)
+      → now ≡ sets out at (each (n * 8) (λ k. f k ∷ []))
   scattered-all {s} {now} h all-done =
       let items = each (n * 8) (λ k. f k ∷ []) in
       let size : length items ≡ n * 8 = length-ones (n * 8) f in

@@ -57,10 +57,12 @@ filled-next-one {g} {now = now} {i = i} h = filled-next 1 (λ j. refl) h (ap (λ
 pub filled-all : {f : ℕ → List ℕ} {out now : List ℕ} {at i : ℕ} (n : ℕ) → Filled f out at i now → i ≡ n → now ≡ sets out at (each n f)
 filled-all {f} {out} {now} {at} n h e = h .is ∙ ap (λ (k : ℕ). sets out at (each k f)) e
 
-pub filled-front : (k : ℕ) {f : ℕ → List ℕ} {out now : List ℕ} {i : ℕ} (n : ℕ) → ((j : ℕ) → length (f j) ≡ k) → Filled f out 0 i now → i ≡ n → n * k ≤ length out → now ≡ overwrite out (each n f)
+pub filled-front : (k : ℕ) {f : ℕ → List ℕ} {out now : List ℕ} {i : ℕ} (n : ℕ) → ((j : ℕ) → length (f j) ≡ k) → Filled f out 0 i now → i ≡ n → n * k ≤ length out
+    → now ≡ overwrite out (each n f)
 filled-front k {f} {out} n size h e fits = filled-all n h e ∙ sets-front out (each n f) (omega (arith, length-each n k f size))
 
-pub filled-whole : (k : ℕ) {f : ℕ → List ℕ} {out now : List ℕ} {i : ℕ} (n : ℕ) → ((j : ℕ) → length (f j) ≡ k) → Filled f out 0 i now → i ≡ n → length out ≡ n * k → now ≡ each n f
+pub filled-whole : (k : ℕ) {f : ℕ → List ℕ} {out now : List ℕ} {i : ℕ} (n : ℕ) → ((j : ℕ) → length (f j) ≡ k) → Filled f out 0 i now → i ≡ n → length out ≡ n * k
+    → now ≡ each n f
 filled-whole k {f} {out} n size h e whole =
     filled-front k n size h e (omega arith)
     ∙ ap (λ (l : List ℕ). each n f ++ l) (drop-of-length-le out {i = length (each n f)} (omega (arith, length-each n k f size)))

@@ -1,20 +1,19 @@
 -- The words of the cells before c are stored, each at its place.
 use mathlib.Core.Path.{_≡_, sym, ap, _∙_, subst}
 use mathlib.Core.List.{List}
-use Prim.Native.Nat.{ℕ, _+_, _-_, _*_, _/_, _%_, _≤_, _<_}
+use Prim.Native.Nat.{ℕ, _+_, _-_, _*_, _/_, _≤_, _<_}
 use native.Mathlib.Omega.{arith}
-use lib.ListN.{length, getD}
+use lib.ListN.{length}
 use lib.Seq.{sets}
 use denote.Ref.{now}
 use borrow.Author.Needs.{needs}
 use Rattle.words.proofs.Items.{item-inside}
 use Rattle.tile.specs.Layout.{element}
 use Rattle.tile.specs.Packings.{sprite}
-use Rattle.tile.specs.Inner.{HasWord, storedAt}
 use Rattle.tile.proofs.Filling.{spread-is}
 use Rattle.tile.proofs.Packings.{Sized, sized-of, cellFrom, cell-inside}
-use Rattle.tile.proofs.Scattered.{Scattered, scattered-none, scattered-more, scattered-all}
-use Rattle.tile.proofs.CellRows.{spriteWord, spriteTurn, in-words, word-place, word-inside, cell-word-is, turn-soon, turn-its}
+use Rattle.tile.proofs.Scattered.{Scattered, scattered-none, scattered-then, scattered-all}
+use Rattle.tile.proofs.CellRows.{spriteTurn, in-words, turn-soon, cell-turns}
 use Rattle.tile.proofs.sprites.put_sprite_rows.Statement.{statement}
 use Rattle.tile.proofs.sprites.put_sprite_rows.Tie as tie
 
@@ -105,23 +104,9 @@ loop-again c =
     let l = m .before in
     let s = start l in
     let a = s .args in
-    let f = element (sprite (w s) (h s) .pixels) (bytes s) in
     let known = l .before .before .before .shared-slice-known in
-    let place : ℕ → ℕ = λ t. a .at + cellFrom (w s) (h s) (cell l) + t / 2 * w s + t % 2 * 8 in
-    let word : ℕ → ℕ = λ t. getD (m .cell-pixels .result) t 0 in
-    let then = storedAt 32 place word (l .before .loop .out) in
-    let more : Scattered (spriteTurn (w s) (h s)) f (now (a .out)) (a .at) (w s * h s / 8) (cell l * 32 + 32) then =
-    scattered-more (space s) 32 place word (spriteWord (w s) (h s) (cell l)) (l .before .loop .inv .1)
-    (λ t lt. omega (arith, word-place (w s) (h s) (s .pre .sound) (cell l) t (l .loop-test .taken) lt))
-    (λ t lt. word-inside (w s) (h s) (s .pre .sound) (cell l) t (l .loop-test .taken) lt)
-    (λ t i lt li e. turn-its (w s) (h s) (s .pre .sound) i li (cell l) t lt e)
-    (λ t lt. subst (λ (ws : List ℕ). HasWord f (spriteWord (w s) (h s) (cell l) t) (getD ws t 0)) (sym (m .cell-pixels .ensures))
-    (cell-word-is (w s) (h s) (s .pre .sound) (cell l) t (l .loop-test .taken) lt (bytes s) (λ i. known .given i .fits))) in
-    let next : cell l * 32 + 32 ≡ (cell l + 1) * 32 = omega arith in (
-      search needs,
-      subst (λ (o : List ℕ). Scattered (spriteTurn (w s) (h s)) f (now (a .out)) (a .at) (w s * h s / 8) ((cell l + 1) * 32) o) (sym (p .put-cell-rows .ensures))
-          (subst (λ (k : ℕ). Scattered (spriteTurn (w s) (h s)) f (now (a .out)) (a .at) (w s * h s / 8) k then) next more),
-    )
+    let turns = cell-turns (w s) (h s) (s .pre .sound) (cell l) (a .at) (bytes s) (m .cell-pixels .result) (l .loop-test .taken) (λ i. known .given i .fits) (m .cell-pixels .ensures) in
+    (search needs, scattered-then (space s) 32 (l .before .loop .inv .1) turns (omega arith) (p .put-cell-rows .ensures))
 
 returns : tie.Need-returns Inv-loop μ-loop
 returns c =
