@@ -122,7 +122,7 @@ fn put_quarter(bytes: &[u8], from: usize, ws: &mut [u64], at: usize)
     }
 }
 
-// The pixels of a cell, two words a row.
+// The pixels of a cell, two words a row: made before the first is stored, for otherwise each is made and stored byte by byte.
 fn cell_pixels(bytes: &[u8], from: usize) -> [u64; 32]
     requires { ⌜ from + 128 ≤ length (now bytes) ⌝ }
     ensures { λ r. ⌜ r ≡ cellWords (now (bytes .entry)) from ⌝ }
