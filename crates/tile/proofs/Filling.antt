@@ -57,25 +57,6 @@ pub word-next : (f : ℕ → ℕ) (w : ℕ) {out now then : List ℕ} {at b : �
 word-next f w {now = now} {at = at} {b = b} h e g =
     filled-more 8 (λ j. refl) h (e ∙ ap (λ (l : List ℕ). sets now (at + b * 8) l) (run-is f b w g))
 
--- two at a time
-pub words-next : (f : ℕ → ℕ) (v w x : ℕ) {out now mid then : List ℕ} {at : ℕ} → Filled (run f) out at (x * 2) now
-    → mid ≡ sets now (at + x * 16) (bytesIn v) → HasWord f (x * 2 + 0) v
-    → then ≡ sets mid (at + x * 16 + 8) (bytesIn w) → HasWord f (x * 2 + 1) w → Filled (run f) out at ((x + 1) * 2) then
-words-next f v w x {out} {now} {mid} {then} {at} h e g i j =
-    let here = subst (λ (b : ℕ). HasWord f b v) (add-zero (x * 2)) g in
-    let first : Filled (run f) out at (x * 2 + 1) mid = word-next f v h (e ∙ ap (λ (k : ℕ). sets now k (bytesIn v)) (first-place at x)) here in
-    let second : Filled (run f) out at (x * 2 + 1 + 1) then = word-next f w first (i ∙ ap (λ (k : ℕ). sets mid k (bytesIn w)) (second-place at x)) j in
-    subst (λ (b : ℕ). Filled (run f) out at b then) (next-pair x) second
-  where
-    first-place : (at x : ℕ) → at + x * 16 ≡ at + x * 2 * 8
-    first-place at x = omega arith
-
-    second-place : (at x : ℕ) → at + x * 16 + 8 ≡ at + (x * 2 + 1) * 8
-    second-place at x = omega arith
-
-    next-pair : (x : ℕ) → x * 2 + 1 + 1 ≡ (x + 1) * 2
-    next-pair x = omega arith
-
 pub words-stored : (f : ℕ → ℕ) (n : ℕ) {out now : List ℕ} {at b : ℕ} → Filled (run f) out at b now → b ≡ n
     → now ≡ sets out at (each (n * 8) (λ k. f k ∷ []))
 words-stored f n {out} {at = at} h e =

@@ -97,17 +97,16 @@ pub record Sized (w h : ℕ) : Type 0 where
   pub down : 0 < h / 16
   pub tall : h ≤ 64
   pub few : w * h ≤ 2048
-  pub sixteens : w % 16 ≡ 0
   pub cells : w / 16 * (h / 16) * 128 ≡ w * h * 4 / 8
 
 abbrev sizeTest : ℕ → ℕ → Bool
 sizeTest w h =
-    ltb 0 w && (leb w 32 && (ltb 0 (h / 16) && (leb h 64 && (leb (w * h) 2048 && (eqb (w % 16) 0 && eqb (w / 16 * (h / 16) * 128) (w * h * 4 / 8))))))
+    ltb 0 w && (leb w 32 && (ltb 0 (h / 16) && (leb h 64 && (leb (w * h) 2048 && eqb (w / 16 * (h / 16) * 128) (w * h * 4 / 8)))))
 
 pub sized-of : (w h : ℕ) → T (isPacking (Sprite w h)) → Sized w h
 sized-of w h t =
     let here : T (sizeTest w h) = sizes-at sizeTest tt w h t in
-    let e = eqb (w % 16) 0 && eqb (w / 16 * (h / 16) * 128) (w * h * 4 / 8) in
+    let e = eqb (w / 16 * (h / 16) * 128) (w * h * 4 / 8) in
     let d = leb (w * h) 2048 && e in
     let c = leb h 64 && d in
     let b = ltb 0 (h / 16) && c in
@@ -123,8 +122,7 @@ sized-of w h t =
       down = ltb→lt 0 (h / 16) (both-left (ltb 0 (h / 16)) c tb);
       tall = leb→le h 64 (both-left (leb h 64) d tc);
       few = leb→le (w * h) 2048 (both-left (leb (w * h) 2048) e td);
-      sixteens = eqb→eq (w % 16) 0 (both-left (eqb (w % 16) 0) (eqb (w / 16 * (h / 16) * 128) (w * h * 4 / 8)) te);
-      cells = eqb→eq (w / 16 * (h / 16) * 128) (w * h * 4 / 8) (both-right (eqb (w % 16) 0) (eqb (w / 16 * (h / 16) * 128) (w * h * 4 / 8)) te);
+      cells = eqb→eq (w / 16 * (h / 16) * 128) (w * h * 4 / 8) te;
     }
 
 -- where a cell's first pixel stands, its last is within the sprite

@@ -4,8 +4,8 @@ use mathlib.Core.Path.{_≡_, refl, sym, ap, ap₂, _∙_}
 use mathlib.Core.Bool.{Bool, true, false, cond}
 use mathlib.Core.List.{List, [], _∷_}
 use Prim.Native.Nat.{ℕ, zero, suc, _+_, _-_, _*_, _/_, _%_, _^_, _≤_, _<_}
-use native.Mathlib.Nat.{lt-of-lt-of-le, le-antisymm, le-of-suc-le-suc, not-suc-le-zero, add-zero, zero-add, add-suc, suc-add, suc-mul, div-div-eq-div-mul, mul-comm}
-use native.Mathlib.Numerals.{add-one, unary-clauses}
+use native.Mathlib.Nat.{lt-of-lt-of-le, le-of-suc-le-suc, not-suc-le-zero, add-zero, zero-add, add-suc, suc-add, suc-mul, div-div-eq-div-mul, mul-comm}
+use native.Mathlib.Numerals.{unary-clauses}
 use native.Mathlib.Omega.{arith}
 use lib.ListN.{getD}
 use lib.Pow.{pow-add, pow-mono}
@@ -37,20 +37,6 @@ wide-byte (suc n) at (suc p) f h l =
     ∙ ap (λ (q : ℕ). q / 2 ^ (p * 8) % 256) (omega (arith, h at))
     ∙ wide-byte n (suc at) p f h (le-of-suc-le-suc l)
     ∙ ap f (suc-add at p ∙ sym (add-suc at p))
-
--- ---- a loop that makes a word of k bytes from the top one down, v = v * 256 + byte
-
-pub wide-below : (n at : ℕ) (f : ℕ → ℕ) → ((j : ℕ) → f j < 256) → n ≤ 7 → wide n at f < 2 ^ 56
-wide-below n at f h l = lt-of-lt-of-le (wide-lt n at f h) (pow-mono {j = 56} (omega arith))
-
-pub word-more : (k n v b : ℕ) (f : ℕ → ℕ) → n < k → v ≡ wide n (k - n) f → b ≡ f (k - (n + 1)) → v * 256 + b ≡ wide (n + 1) (k - (n + 1)) f
-unfolding wide
-word-more k n v b f l e g =
-    let s : suc (k - (n + 1)) ≡ k - n = omega arith in
-    rw (e, g) (omega (arith, ap (λ (m : ℕ). wide m (k - (n + 1)) f) (add-one n), ap (λ (m : ℕ). wide n m f) s))
-
-pub word-all : (k n v : ℕ) (f : ℕ → ℕ) → n ≤ k → k ≤ n → v ≡ wide n (k - n) f → v ≡ wide k 0 f
-word-all k n v f l m e = e ∙ ap₂ (λ (x y : ℕ). wide x y f) (le-antisymm l m) (omega arith)
 
 -- ---- eight bytes read one after the other
 
