@@ -264,8 +264,10 @@ static void pack_entry(void) {
     tell(call, 0, is_written(w, 0, RUMCHIVOAT_ENTRY_BYTES(SNES)));
     no_bytes(call, RUMCHIVOAT_REFUSED_MODE, rumchivoat_pack_entry(NO_MODE, 0, 0, false, false, false, out, 2));
     no_bytes(call, RUMCHIVOAT_REFUSED_PCE_SPRITE, rumchivoat_pack_entry(SPRITE, 0, 0, false, false, false, out, 2));
-    no_bytes(call, RUMCHIVOAT_REFUSED_FIELD, rumchivoat_pack_entry(PCE, 4096, 15, false, false, false, out, 2));
-    no_bytes(call, RUMCHIVOAT_REFUSED_FIELD, rumchivoat_pack_entry(PCE, 4095, 15, true, false, false, out, 2));
+    no_bytes(call, RUMCHIVOAT_REFUSED_ENTRY_TILE, rumchivoat_pack_entry(PCE, 4096, 15, false, false, false, out, 2));
+    no_bytes(call, RUMCHIVOAT_REFUSED_ENTRY_PALETTE, rumchivoat_pack_entry(PCE, 4095, 16, true, false, true, out, 1));
+    no_bytes(call, RUMCHIVOAT_REFUSED_ENTRY_FLIP, rumchivoat_pack_entry(PCE, 4095, 15, true, false, true, out, 1));
+    no_bytes(call, RUMCHIVOAT_REFUSED_ENTRY_PRIORITY, rumchivoat_pack_entry(PCE, 4095, 15, false, false, true, out, 1));
     no_bytes(call, RUMCHIVOAT_REFUSED_OUTPUT, rumchivoat_pack_entry(SNES, 513, 5, true, false, true, out, 1));
 }
 
@@ -291,7 +293,10 @@ static void tile_index(void) {
     tell(call, 0, is_written(w, 0, 2));
     no_bytes(call, RUMCHIVOAT_REFUSED_MODE, rumchivoat_tile_index(NO_MODE, 0, 0, false, false, false, out, 2));
     no_bytes(call, RUMCHIVOAT_REFUSED_PCE_SPRITE, rumchivoat_tile_index(SPRITE, 0, 0, false, false, false, out, 2));
-    no_bytes(call, RUMCHIVOAT_REFUSED_FIELD, rumchivoat_tile_index(SNES, 0, 8, false, false, false, out, 2));
+    no_bytes(call, RUMCHIVOAT_REFUSED_ENTRY_TILE, rumchivoat_tile_index(SNES, 1024, 8, false, false, false, out, 2));
+    no_bytes(call, RUMCHIVOAT_REFUSED_ENTRY_PALETTE, rumchivoat_tile_index(SNES, 0, 8, false, false, false, out, 2));
+    no_bytes(call, RUMCHIVOAT_REFUSED_ENTRY_FLIP, rumchivoat_tile_index(PCE, 0, 0, false, true, true, out, 2));
+    no_bytes(call, RUMCHIVOAT_REFUSED_ENTRY_PRIORITY, rumchivoat_tile_index(PCE, 0, 0, false, false, true, out, 2));
     no_bytes(call, RUMCHIVOAT_REFUSED_OUTPUT, rumchivoat_tile_index(SNES, 513, 5, true, false, true, out, 1));
 }
 
@@ -301,7 +306,10 @@ static void attribute(void) {
     tell(call, 0, is_number(rumchivoat_attribute(SNES, 513, 5, true, false, true), 0, 0x74));
     no_number(call, RUMCHIVOAT_REFUSED_MODE, rumchivoat_attribute(NO_MODE, 0, 0, false, false, false));
     no_number(call, RUMCHIVOAT_REFUSED_PCE_SPRITE, rumchivoat_attribute(SPRITE, 0, 0, false, false, false));
-    no_number(call, RUMCHIVOAT_REFUSED_FIELD, rumchivoat_attribute(PCE, 0, 0, true, false, false));
+    no_number(call, RUMCHIVOAT_REFUSED_ENTRY_TILE, rumchivoat_attribute(PCE, 4096, 16, true, false, true));
+    no_number(call, RUMCHIVOAT_REFUSED_ENTRY_PALETTE, rumchivoat_attribute(PCE, 0, 16, true, false, true));
+    no_number(call, RUMCHIVOAT_REFUSED_ENTRY_FLIP, rumchivoat_attribute(PCE, 0, 0, true, false, true));
+    no_number(call, RUMCHIVOAT_REFUSED_ENTRY_PRIORITY, rumchivoat_attribute(PCE, 0, 0, false, false, true));
 }
 
 /* ---- sets */
@@ -527,7 +535,7 @@ static void convert(void) {
                rumchivoat_convert(GB, 2, true, true, 0, 0, 2, 1, p, 128, t, 32, m, 4));
     no_picture(call, RUMCHIVOAT_REFUSED_LENGTH,
                rumchivoat_convert(SNES, 2, true, true, 0, 0, 2, 1, p, 127, t, 32, m, 4));
-    no_picture(call, RUMCHIVOAT_REFUSED_FIELD,
+    no_picture(call, RUMCHIVOAT_REFUSED_ENTRY_PALETTE,
                rumchivoat_convert(SNES, 2, true, true, 0, 8, 2, 1, p, 128, t, 32, m, 4));
     no_picture(call, RUMCHIVOAT_REFUSED_OUTPUT,
                rumchivoat_convert(SNES, 2, true, true, 0, 0, 2, 1, p, 128, t, 32, m, 3));
@@ -603,8 +611,8 @@ static void run(void) {
           "mode=snes\ndepth=2\nflip=1\ndiscard=1\nlimit=0\npalette=0\ncolumns=0\nrows=1\n", 0, "refused=4\n");
     tells(RUMCHIVOAT_REFUSED_FLIPS,
           "mode=gb\ndepth=2\nflip=1\ndiscard=1\nlimit=0\npalette=0\ncolumns=2\nrows=1\n", 128, "refused=5\n");
-    tells(RUMCHIVOAT_REFUSED_FIELD,
-          "mode=snes\ndepth=2\nflip=1\ndiscard=1\nlimit=0\npalette=8\ncolumns=2\nrows=1\n", 128, "refused=10\n");
+    tells(RUMCHIVOAT_REFUSED_ENTRY_PALETTE,
+          "mode=snes\ndepth=2\nflip=1\ndiscard=1\nlimit=0\npalette=8\ncolumns=2\nrows=1\n", 128, "refused=16\n");
     tells(RUMCHIVOAT_REFUSED_ROOM,
           "mode=snes\ndepth=2\nflip=1\ndiscard=0\nlimit=1\npalette=0\ncolumns=2\nrows=1\n", 128, "refused=12\n");
     tells(RUMCHIVOAT_REFUSED_SETTINGS,

@@ -60,11 +60,14 @@ declared() {
     sed -n 's/^[a-z_0-9]* \(rumchivoat_[a-z_0-9]*\)(.*/\1/p' "$header" | sort
 }
 
-# `CALL NUMBER` for each mark in the table of docs/REFUSALS.md.
+# `CALL NUMBER` for each mark in the table of docs/REFUSALS.md; its head row has the numbers.
 in_the_table() {
-    awk -F '|' '/^\| `rumchivoat_/ {
+    awk -F '|' '/^\| call \| 1 / {
+        for (i = 3; i < NF; i++) number[i] = $i + 0
+    }
+    /^\| `rumchivoat_/ {
         gsub(/[ `]/, "", $2)
-        for (i = 3; i < NF; i++) if ($i ~ /x/) print $2, i - 2
+        for (i = 3; i < NF; i++) if ($i ~ /x/) print $2, number[i]
     }' docs/REFUSALS.md | sort
 }
 

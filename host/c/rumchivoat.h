@@ -2,9 +2,9 @@
  * for another processor (host/native.sh). It wants memcpy and memset of the host's C library, and nothing else.
  *
  * Every call answers every input. `refusal` is RUMCHIVOAT_DONE, or the number of the refusal; where several apply, the
- * lowest is given (docs/REFUSALS.md has causes and cures). Of a refused call every other field is 0 or false, and no
- * lent byte has changed, but for these: set_reset and set_add hand back the set that came, and run writes its line.
- * A call that is done leaves the bytes after the written length as they were.
+ * first in the order below is given (docs/REFUSALS.md has causes and cures). Of a refused call every other field is 0 or
+ * false, and no lent byte has changed, but for these: set_reset and set_add hand back the set that came, and run writes
+ * its line. A call that is done leaves the bytes after the written length as they were.
  *
  * What the caller owes: a lent slice is a pointer, not null even where the length is 0, and so many bytes behind it; a
  * slice that is written overlaps no other slice of the call; a bool is 0 or 1. No call allocates, keeps a pointer,
@@ -22,7 +22,7 @@
 #include <stdint.h>
 
 /* The number of the interface that this header is about. Compare it with rumchivoat_interface() of the archive. */
-#define RUMCHIVOAT_INTERFACE 1
+#define RUMCHIVOAT_INTERFACE 2
 
 /* ---- the sixteen modes */
 
@@ -43,23 +43,27 @@
 #define RUMCHIVOAT_MODE_WSC 14u
 #define RUMCHIVOAT_MODE_WSC_PACKED 15u
 
-/* ---- what the station is told */
+/* ---- what the station is told, in the order in which it is checked. 10 is no longer given: 15 to 18 stand where it
+ * stood. */
 
 #define RUMCHIVOAT_DONE 0u
-#define RUMCHIVOAT_REFUSED_MODE 1u       /* mode number above 15 */
-#define RUMCHIVOAT_REFUSED_PCE_SPRITE 2u /* an entry, picture, redraw, cell number or reading in pce_sprite */
-#define RUMCHIVOAT_REFUSED_DEPTH 3u      /* depth not in the mode's row */
-#define RUMCHIVOAT_REFUSED_SIZE 4u       /* tile size not allowed, columns or rows outside 1..64, tile above 65,535 */
-#define RUMCHIVOAT_REFUSED_FLIPS 5u      /* picture with flips on in a mode without flips */
-#define RUMCHIVOAT_REFUSED_COUNT 6u      /* set state counts more tiles than its room */
-#define RUMCHIVOAT_REFUSED_LENGTH 7u     /* input length not the one required; a map that names a tile not there */
-#define RUMCHIVOAT_REFUSED_PIXEL 8u      /* a pixel of 2^depth or more, in tile packing or set writing */
-#define RUMCHIVOAT_REFUSED_COMPONENT 9u  /* a component r, g or b above the top */
-#define RUMCHIVOAT_REFUSED_FIELD 10u     /* an entry field its bits cannot hold, a picture's palette included */
-#define RUMCHIVOAT_REFUSED_OUTPUT 11u    /* output buffer shorter than the bytes to be written */
-#define RUMCHIVOAT_REFUSED_ROOM 12u      /* no room for the tiles */
-#define RUMCHIVOAT_REFUSED_DISCARDED 13u /* discarding on, discard counter 4,294,967,295, and an added tile matches */
-#define RUMCHIVOAT_REFUSED_SETTINGS 14u  /* run only, before all others: the sheet is not as it should be */
+#define RUMCHIVOAT_REFUSED_SETTINGS 14u       /* run only: the sheet is not as it should be */
+#define RUMCHIVOAT_REFUSED_MODE 1u            /* mode number above 15 */
+#define RUMCHIVOAT_REFUSED_PCE_SPRITE 2u      /* an entry, picture, redraw, cell number or reading in pce_sprite */
+#define RUMCHIVOAT_REFUSED_DEPTH 3u           /* depth not in the mode's row */
+#define RUMCHIVOAT_REFUSED_SIZE 4u            /* tile size not allowed, columns or rows outside 1..64, tile above 65,535 */
+#define RUMCHIVOAT_REFUSED_FLIPS 5u           /* picture with flips on in a mode without flips */
+#define RUMCHIVOAT_REFUSED_COUNT 6u           /* set state counts more tiles than its room */
+#define RUMCHIVOAT_REFUSED_LENGTH 7u          /* input length not the one required; a map that names a tile not there */
+#define RUMCHIVOAT_REFUSED_PIXEL 8u           /* a pixel of 2^depth or more, in tile packing or set writing */
+#define RUMCHIVOAT_REFUSED_COMPONENT 9u       /* a component r, g or b above the top */
+#define RUMCHIVOAT_REFUSED_ENTRY_TILE 15u     /* the tile index of an entry is larger than its bits can hold */
+#define RUMCHIVOAT_REFUSED_ENTRY_PALETTE 16u  /* the palette index of an entry or a picture, likewise */
+#define RUMCHIVOAT_REFUSED_ENTRY_FLIP 17u     /* a flip of an entry where there is none */
+#define RUMCHIVOAT_REFUSED_ENTRY_PRIORITY 18u /* priority of an entry where there is none */
+#define RUMCHIVOAT_REFUSED_OUTPUT 11u         /* output buffer shorter than the bytes to be written */
+#define RUMCHIVOAT_REFUSED_ROOM 12u           /* no room for the tiles */
+#define RUMCHIVOAT_REFUSED_DISCARDED 13u      /* discarding on, discard counter 4,294,967,295, and an added tile matches */
 
 /* ---- how large buffers are, in bytes. For arguments that the calls accept; the products are size_t. */
 
@@ -211,7 +215,8 @@ rumchivoat_number rumchivoat_scale_up(uint32_t mode, uint32_t component);
 
 /* Packs a map entry.
  * Writes   `out`: RUMCHIVOAT_ENTRY_BYTES(mode).
- * Refused  1 mode; 2 pce_sprite; 10 tile, palette, a flip or priority that the mode's entry cannot hold; 11 out_len.
+ * Refused  1 mode; 2 pce_sprite; of what the mode's entry cannot hold the first: 15 tile, 16 palette, 17 a flip,
+ *          18 priority; 11 out_len.
  * Stack    RUMCHIVOAT_STACK_OTHERS. */
 rumchivoat_written rumchivoat_pack_entry(uint32_t mode, uint32_t tile, uint32_t palette, bool flip_h, bool flip_v,
                                          bool priority, uint8_t *out, size_t out_len);
@@ -224,13 +229,13 @@ rumchivoat_entry rumchivoat_unpack_entry(uint32_t mode, const uint8_t *bytes, si
 
 /* Writes an entry's tile index by itself.
  * Writes   `out`: two bytes, low first; one in gbc and where an entry has one.
- * Refused  1 mode; 2 pce_sprite; 10 as rumchivoat_pack_entry; 11 out_len.
+ * Refused  1 mode; 2 pce_sprite; 15 to 18 as rumchivoat_pack_entry; 11 out_len.
  * Stack    RUMCHIVOAT_STACK_OTHERS. */
 rumchivoat_written rumchivoat_tile_index(uint32_t mode, uint32_t tile, uint32_t palette, bool flip_h, bool flip_v,
                                          bool priority, uint8_t *out, size_t out_len);
 
 /* An entry's attribute: the other byte without tile bits (gbc keeps tile bit 8); 0 where an entry has one byte.
- * Reads and writes no lent byte. Refused: 1 mode; 2 pce_sprite; 10 as rumchivoat_pack_entry.
+ * Reads and writes no lent byte. Refused: 1 mode; 2 pce_sprite; 15 to 18 as rumchivoat_pack_entry.
  * Stack: RUMCHIVOAT_STACK_OTHERS. */
 rumchivoat_number rumchivoat_attribute(uint32_t mode, uint32_t tile, uint32_t palette, bool flip_h, bool flip_v,
                                        bool priority);
@@ -296,7 +301,7 @@ rumchivoat_number rumchivoat_logical_number(uint32_t mode, uint32_t width, uint3
  * limit if it is not 0, the tile numbers that an entry can hold, and the whole tiles of `tiles`.
  * Reads    `pixels`: RUMCHIVOAT_PICTURE_PIXELS(columns, rows), row by row, each cut to its low depth bits.
  * Writes   `tiles`: 8 x depth for each tile stored; `map`: RUMCHIVOAT_MAP_BYTES(mode, columns, rows).
- * Refused  1 mode; 2 pce_sprite; 3 depth; 4 columns or rows; 5 flip in a mode without flips; 7 pixels_len; 10 palette;
+ * Refused  1 mode; 2 pce_sprite; 3 depth; 4 columns or rows; 5 flip in a mode without flips; 7 pixels_len; 16 palette;
  *          11 map_len; 12 no room for the tiles, `tiles` too short included.
  * Stack    RUMCHIVOAT_STACK_CONVERT. */
 rumchivoat_picture rumchivoat_convert(uint32_t mode, uint32_t depth, bool flip, bool discard, uint32_t limit,
@@ -319,7 +324,7 @@ rumchivoat_written rumchivoat_redraw(uint32_t mode, uint32_t depth, uint32_t col
  * of a refusal's line too.
  * Reads    `input`: a sheet, at most RUMCHIVOAT_SHEET_MOST.
  * Writes   `out`: the whole text, at most RUMCHIVOAT_TEXT_MOST.
- * Refused  14 the sheet is not as it should be; then as rumchivoat_convert with 65,536 bytes for tiles: 2, 3, 4, 5, 10,
+ * Refused  14 the sheet is not as it should be; then as rumchivoat_convert with 65,536 bytes for tiles: 2, 3, 4, 5, 16,
  *          12. In all these the text tells the number. 11 where the text does not fit `out`: then nothing is written.
  * Stack    RUMCHIVOAT_STACK_RUN. */
 rumchivoat_written rumchivoat_run(const uint8_t *input, size_t input_len, uint8_t *out, size_t out_len);

@@ -153,7 +153,7 @@ function why(    fault, name) {
     if (number == 3) return line_is(2) name " has " (depths[name] ~ /,/ ? "depths " : "depth ") depths[name]
     if (number == 4) return size_fault()
     if (number == 5) return line_is(3) name " has no flips"
-    if (number == 10) return palette_fault(name)
+    if (number == 16) return palette_fault(name)
     if (number == 12) return room_fault(name)
     return ""
 }

@@ -100,9 +100,9 @@ refused_for_the_picture() {
     sheet gb 2 1 1 0 0 2 1 128
     refused 5 'line 3 of the sheet is "flip=1": gb has no flips'
     sheet snes 2 1 1 0 8 2 1 128
-    refused 10 'line 6 of the sheet is "palette=8": snes has palettes 0 to 7'
+    refused 16 'line 6 of the sheet is "palette=8": snes has palettes 0 to 7'
     sheet gb 2 0 1 0 1 2 1 128
-    refused 10 'line 6 of the sheet is "palette=1": gb has palette 0 alone'
+    refused 16 'line 6 of the sheet is "palette=1": gb has palette 0 alone'
     sheet snes 2 1 0 1 0 2 1 128
     room='the picture needs more tiles than there is room for'
     refused 12 "$room, 1: line 5 of the sheet is \"limit=1\"; with discard=0 every tile is stored"
@@ -326,7 +326,10 @@ interfaces() {
     for tool in cargo cc ar; do
         is_there "$tool" || { skipped "archives of other interfaces: $tool is missing"; return; }
     done
-    over_archive "unsigned rumchivoat_interface(void) { return 2; }" "has interface 2, and this crate is written for 1"
+    due=$(sed -n 's/^#define RUMCHIVOAT_INTERFACE //p' host/c/rumchivoat.h)
+    other=$((due + 1))
+    over_archive "unsigned rumchivoat_interface(void) { return $other; }" \
+        "has interface $other, and this crate is written for $due"
     over_archive "unsigned other(void) { return 1; }" "is from before there was an interface number"
 }
 

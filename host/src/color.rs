@@ -17,7 +17,7 @@ pub enum Rounding {
 ///
 /// # Errors
 ///
-/// The lowest first: [`Refusal::Mode`], [`Refusal::Length`], [`Refusal::Component`], [`Refusal::Output`].
+/// The first that applies: [`Refusal::Mode`], [`Refusal::Length`], [`Refusal::Component`], [`Refusal::Output`].
 ///
 /// # Example
 ///
@@ -51,7 +51,7 @@ pub fn pack_colors(mode: impl Into<u32>, colors: &[u8], out: &mut [u8]) -> Resul
 ///
 /// # Errors
 ///
-/// The lowest first: [`Refusal::Mode`], [`Refusal::Length`], [`Refusal::Output`].
+/// The first that applies: [`Refusal::Mode`], [`Refusal::Length`], [`Refusal::Output`].
 ///
 /// # Example
 ///
@@ -91,7 +91,7 @@ pub fn reduce_channel(mode: impl Into<u32>, value: u8, rounding: Rounding) -> Re
 ///
 /// # Errors
 ///
-/// The lowest first: [`Refusal::Mode`], [`Refusal::Component`].
+/// The first that applies: [`Refusal::Mode`], [`Refusal::Component`].
 ///
 /// # Example
 ///
@@ -116,7 +116,7 @@ const FOUR: usize = 4;
 ///
 /// # Errors
 ///
-/// The lowest first: [`Refusal::Mode`], [`Refusal::Length`], [`Refusal::Component`], with their causes.
+/// The first that applies: [`Refusal::Mode`], [`Refusal::Length`], [`Refusal::Component`], with their causes.
 ///
 /// # Example
 ///
@@ -141,7 +141,7 @@ pub fn pack_colors_to_vec(mode: impl Into<u32>, colors: &[u8]) -> Result<Vec<u8>
 ///
 /// # Errors
 ///
-/// The lowest first: [`Refusal::Mode`], [`Refusal::Length`], with their causes.
+/// The first that applies: [`Refusal::Mode`], [`Refusal::Length`], with their causes.
 ///
 /// # Example
 ///

@@ -2,7 +2,9 @@
 
 use crate::{Cause, Mode, Refusal, Refused, raw};
 
-/// A map entry. Each mode has its own bits for each field; a field that they cannot hold is [`Refusal::Field`].
+/// A map entry. Each mode has its own bits for each field; the first field, in this order, that they cannot hold is
+/// refused by its own number: [`Refusal::EntryTile`], [`Refusal::EntryPalette`], [`Refusal::EntryFlip`] (either),
+/// [`Refusal::EntryPriority`].
 #[derive(Debug, Clone, Copy, PartialEq, Eq, Hash, Default)]
 pub struct Entry {
     /// The tile index.
@@ -21,7 +23,9 @@ pub struct Entry {
 ///
 /// # Errors
 ///
-/// The lowest first: [`Refusal::Mode`], [`Refusal::PceSprite`], [`Refusal::Field`], [`Refusal::Output`].
+/// The first that applies: [`Refusal::Mode`], [`Refusal::PceSprite`], the first field's that does not fit
+/// ([`Refusal::EntryTile`], [`Refusal::EntryPalette`], [`Refusal::EntryFlip`], [`Refusal::EntryPriority`]),
+/// [`Refusal::Output`].
 ///
 /// # Example
 ///
@@ -42,9 +46,9 @@ pub struct Entry {
 /// assert_eq!(pack_entry(Mode::Pce, entry, &mut out), Ok(2));
 /// assert_eq!(out, [0xff, 0xff]);
 /// let above = Entry { tile: 4096, ..entry };
-/// assert_eq!(pack_entry(Mode::Pce, above, &mut out), Err(Refusal::Field));
+/// assert_eq!(pack_entry(Mode::Pce, above, &mut out), Err(Refusal::EntryTile));
 /// let flipped = Entry { flip_h: true, ..entry };
-/// assert_eq!(pack_entry(Mode::Pce, flipped, &mut out), Err(Refusal::Field));
+/// assert_eq!(pack_entry(Mode::Pce, flipped, &mut out), Err(Refusal::EntryFlip));
 /// ```
 pub fn pack_entry(mode: impl Into<u32>, entry: Entry, out: &mut [u8]) -> Result<usize, Refusal> {
     raw::pack_entry(mode.into(), entry, out).length()
@@ -54,7 +58,7 @@ pub fn pack_entry(mode: impl Into<u32>, entry: Entry, out: &mut [u8]) -> Result<
 ///
 /// # Errors
 ///
-/// The lowest first: [`Refusal::Mode`], [`Refusal::PceSprite`], [`Refusal::Length`].
+/// The first that applies: [`Refusal::Mode`], [`Refusal::PceSprite`], [`Refusal::Length`].
 ///
 /// # Example
 ///
@@ -75,7 +79,9 @@ pub fn unpack_entry(mode: impl Into<u32>, bytes: &[u8]) -> Result<Entry, Refusal
 ///
 /// # Errors
 ///
-/// The lowest first: [`Refusal::Mode`], [`Refusal::PceSprite`], [`Refusal::Field`], [`Refusal::Output`].
+/// The first that applies: [`Refusal::Mode`], [`Refusal::PceSprite`], the first field's that does not fit
+/// ([`Refusal::EntryTile`], [`Refusal::EntryPalette`], [`Refusal::EntryFlip`], [`Refusal::EntryPriority`]),
+/// [`Refusal::Output`].
 ///
 /// # Example
 ///
@@ -97,7 +103,8 @@ pub fn tile_index(mode: impl Into<u32>, entry: Entry, out: &mut [u8]) -> Result<
 ///
 /// # Errors
 ///
-/// The lowest first: [`Refusal::Mode`], [`Refusal::PceSprite`], [`Refusal::Field`].
+/// The first that applies: [`Refusal::Mode`], [`Refusal::PceSprite`], the first field's that does not fit, as in
+/// [`pack_entry`].
 ///
 /// # Example
 ///
@@ -118,8 +125,7 @@ impl Entry {
     ///
     /// # Errors
     ///
-    /// The lowest first: [`Refusal::Mode`], [`Refusal::PceSprite`], [`Refusal::Field`], [`Refusal::Output`], with their
-    /// causes.
+    /// Those of [`pack_entry`], with their causes.
     ///
     /// # Example
     ///
@@ -132,7 +138,7 @@ impl Entry {
     /// let refused = entry.pack(Mode::Snes, &mut out[..1]).unwrap_err();
     /// assert_eq!(refused.to_string(), "refused 11: the output needs 2 bytes and has 1");
     /// let refused = entry.pack(Mode::Gg, &mut out).unwrap_err();
-    /// assert_eq!(refused.to_string(), "refused 10: tile index 513 does not fit gg's 9 bits");
+    /// assert_eq!(refused.to_string(), "refused 15: tile index 513 is too large: gg has tiles 0 to 511");
     /// # Ok::<(), Refused>(())
     /// ```
     pub fn pack(self, mode: impl Into<u32>, out: &mut [u8]) -> Result<usize, Refused> {
@@ -145,7 +151,7 @@ impl Entry {
     ///
     /// # Errors
     ///
-    /// The lowest first: [`Refusal::Mode`], [`Refusal::PceSprite`], [`Refusal::Field`], with their causes.
+    /// Those of [`pack_entry`], with their causes, but for [`Refusal::Output`].
     ///
     /// # Example
     ///
@@ -155,7 +161,7 @@ impl Entry {
     /// let entry = Entry { tile: 4095, palette: 15, ..Entry::default() };
     /// assert_eq!(entry.pack_to_vec(Mode::Pce)?, [0xff, 0xff]);
     /// let flipped = Entry { flip_h: true, ..entry };
-    /// assert_eq!(flipped.pack_to_vec(Mode::Pce).unwrap_err().to_string(), "refused 10: pce has no flips");
+    /// assert_eq!(flipped.pack_to_vec(Mode::Pce).unwrap_err().to_string(), "refused 17: pce has no flips");
     /// # Ok::<(), Refused>(())
     /// ```
     pub fn pack_to_vec(self, mode: impl Into<u32>) -> Result<Vec<u8>, Refused> {
@@ -168,7 +174,7 @@ impl Entry {
     ///
     /// # Errors
     ///
-    /// The lowest first: [`Refusal::Mode`], [`Refusal::PceSprite`], [`Refusal::Length`], with their causes.
+    /// The first that applies: [`Refusal::Mode`], [`Refusal::PceSprite`], [`Refusal::Length`], with their causes.
     ///
     /// # Example
     ///
@@ -189,27 +195,14 @@ impl Entry {
         let needed = |mode: Mode| mode.entry_bytes().unwrap_or(0);
         match refusal {
             Refusal::Mode => Cause::Mode { number },
-            Refusal::Field => Cause::in_mode(number, |mode| self.misfit(mode)),
+            Refusal::EntryTile => Cause::in_mode(number, |mode| Cause::Tile { mode, tile: self.tile }),
+            Refusal::EntryPalette => Cause::in_mode(number, |mode| Cause::Palette { mode, palette: self.palette }),
+            Refusal::EntryFlip => Cause::in_mode(number, |mode| Cause::Flips { mode }),
+            Refusal::EntryPriority => Cause::in_mode(number, |mode| Cause::Priority { mode }),
             Refusal::Output => {
                 Cause::in_mode(number, |mode| Cause::Output { what: "output", needed: needed(mode), space })
             }
             _ => Cause::Plain,
-        }
-    }
-
-    /// The first field that the mode's entries do not hold.
-    fn misfit(self, mode: Mode) -> Cause {
-        let Entry { tile, palette, flip_h, flip_v, priority } = self;
-        if !fits(tile, mode.tile_bits()) {
-            Cause::Tile { mode, tile }
-        } else if !fits(palette, mode.palette_bits()) {
-            Cause::Palette { mode, palette }
-        } else if (flip_h || flip_v) && !mode.has_flips() {
-            Cause::Flips { mode }
-        } else if priority && !mode.has_priority() {
-            Cause::Priority { mode }
-        } else {
-            Cause::Plain
         }
     }
 }

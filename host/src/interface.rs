@@ -6,7 +6,7 @@ use std::fmt;
 use crate::raw;
 
 /// The number of the interface that this crate is written for.
-pub const INTERFACE: u32 = 1;
+pub const INTERFACE: u32 = 2;
 
 /// The archive has another interface than the crate.
 #[derive(Debug, Clone, Copy, PartialEq, Eq, Hash)]
@@ -61,7 +61,7 @@ mod tests {
         for archive in [0, INTERFACE + 1, u32::MAX] {
             assert_eq!(same(archive), Err(InterfaceMismatch { archive, host: INTERFACE }));
         }
-        let told = InterfaceMismatch { archive: 2, host: 1 }.to_string();
-        assert_eq!(told, "the archive has interface 2, this crate is written for 1: build both from one checkout");
+        let told = InterfaceMismatch { archive: 1, host: 2 }.to_string();
+        assert_eq!(told, "the archive has interface 1, this crate is written for 2: build both from one checkout");
     }
 }

@@ -24,7 +24,8 @@
 //! The plain calls ([`convert`], [`pack_colors`], [`Set::add`] ..) take numbers and lent slices, as the archive does, and
 //! answer a [`Refusal`]: they cost what the archive's calls cost. The typed layer ([`Settings`], [`TileSet`], [`Entry`],
 //! the calls that end in `_to_vec`) is thin over them. It names what is easily swapped, ties a set to its store, and
-//! answers [`Refused`], whose words tell the values: `refused 10: tile index 4096 does not fit pce's 12 bits`.
+//! answers [`Refused`], whose words tell the values: `refused 15: tile index 4096 is too large: pce has
+//! tiles 0 to 4095`.
 //!
 //! A mode is given as a [`Mode`] or by its number, so that a number read from elsewhere needs no check of its own: a
 //! number above 15 is answered with [`Refusal::Mode`].

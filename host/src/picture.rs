@@ -113,8 +113,8 @@ impl Settings {
     ///
     /// # Errors
     ///
-    /// What the settings alone are refused with, the lowest first: [`Refusal::Mode`], [`Refusal::PceSprite`],
-    /// [`Refusal::Depth`], [`Refusal::Size`], [`Refusal::Flips`], [`Refusal::Field`], with their causes.
+    /// What the settings alone are refused with, the first that applies: [`Refusal::Mode`], [`Refusal::PceSprite`],
+    /// [`Refusal::Depth`], [`Refusal::Size`], [`Refusal::Flips`], [`Refusal::EntryPalette`], with their causes.
     ///
     /// # Example
     ///
@@ -291,13 +291,13 @@ impl Settings {
         }
     }
 
-    /// What of these settings refuses a conversion, whatever the picture and the buffers: 1 to 5, and 10.
+    /// What of these settings refuses a conversion, whatever the picture and the buffers: 1 to 5, and 16.
     fn checked(&self) -> Result<Mode, Refused> {
         let mode = self.sized()?;
         if self.flip && !mode.has_flips() {
             Err(Refused::new(Refusal::Flips, Cause::Flips { mode }))
         } else if !fits(self.palette, mode.palette_bits()) {
-            Err(Refused::new(Refusal::Field, Cause::Palette { mode, palette: self.palette }))
+            Err(Refused::new(Refusal::EntryPalette, Cause::Palette { mode, palette: self.palette }))
         } else {
             Ok(mode)
         }
@@ -338,7 +338,7 @@ impl Settings {
         match refusal {
             Refusal::Flips => in_mode(&|mode| Cause::Flips { mode }),
             Refusal::Length => Cause::Length { what: "pixel", needed: self.pixels(), given },
-            Refusal::Field => in_mode(&|mode| Cause::Palette { mode, palette: self.palette }),
+            Refusal::EntryPalette => in_mode(&|mode| Cause::Palette { mode, palette: self.palette }),
             Refusal::Output => {
                 in_mode(&|mode| Cause::Output { what: "map", needed: self.map_bytes(mode), space: map_space })
             }
@@ -414,9 +414,9 @@ pub struct Converted {
 ///
 /// # Errors
 ///
-/// The lowest first: [`Refusal::Mode`], [`Refusal::PceSprite`], [`Refusal::Depth`], [`Refusal::Size`] (columns
-/// or rows not 1 to 64), [`Refusal::Flips`], [`Refusal::Length`] (not 64 x columns x rows pixels), [`Refusal::Field`]
-/// (the palette index), [`Refusal::Output`] (the map), [`Refusal::Room`] (the tiles).
+/// The first that applies: [`Refusal::Mode`], [`Refusal::PceSprite`], [`Refusal::Depth`], [`Refusal::Size`] (columns or
+/// rows not 1 to 64), [`Refusal::Flips`], [`Refusal::Length`] (not 64 x columns x rows pixels), [`Refusal::EntryPalette`],
+/// [`Refusal::Output`] (the map), [`Refusal::Room`] (the tiles).
 ///
 /// # Example
 ///
@@ -453,7 +453,7 @@ pub fn convert(settings: Settings, pixels: &[u8], tiles: &mut [u8], map: &mut [u
 ///
 /// # Errors
 ///
-/// The lowest first: [`Refusal::Mode`], [`Refusal::PceSprite`], [`Refusal::Depth`], [`Refusal::Size`] (columns
+/// The first that applies: [`Refusal::Mode`], [`Refusal::PceSprite`], [`Refusal::Depth`], [`Refusal::Size`] (columns
 /// or rows not 1 to 64), [`Refusal::Length`] (tile bytes that are not whole tiles or end before a tile that the map
 /// names, or map bytes that are not exactly the map's), [`Refusal::Output`].
 ///

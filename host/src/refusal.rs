@@ -3,7 +3,9 @@
 use std::error::Error;
 use std::fmt;
 
-/// Why a call was refused. Where several apply, the lowest number is given.
+/// Why a call was refused. Where several apply, the first in the order of the checks is given, and refusals are ordered
+/// so: the least is given. That is the order of their numbers, but for 15 to 18, which come before 11, and 14, which
+/// comes before all. There is no 10: any field of an entry was refused with it before each had a number of its own.
 ///
 /// A refusal is a number alone. The typed calls answer [`Refused`](crate::Refused), which has the values as well.
 ///
@@ -13,11 +15,13 @@ use std::fmt;
 /// assert_eq!(Refusal::Component.number(), 9);
 /// assert_eq!(Refusal::Component.to_string(), "refused 9: a colour component is above the mode's top");
 /// assert_eq!(Refusal::try_from(9), Ok(Refusal::Component));
-/// assert!(Refusal::Mode < Refusal::Component);
+/// assert!(Refusal::Component < Refusal::EntryTile && Refusal::EntryTile < Refusal::Output);
 /// ```
 #[derive(Debug, Clone, Copy, PartialEq, Eq, PartialOrd, Ord, Hash)]
 #[non_exhaustive]
 pub enum Refusal {
+    /// 14: settings lines not as document 01 has them. Of the program alone, before all others.
+    Settings,
     /// 1: mode number above 15.
     Mode,
     /// 2: an entry, picture, redraw or cell number in pce_sprite; reading a pce_sprite set.
@@ -36,17 +40,20 @@ pub enum Refusal {
     Pixel,
     /// 9: a component r, g or b above the top, gray modes included.
     Component,
-    /// 10: an entry field its bits cannot hold, a flip or priority where there is none, or a picture's palette index too
-    /// large.
-    Field,
+    /// 15: the tile index of an entry is larger than its bits can hold.
+    EntryTile,
+    /// 16: the palette index of an entry, or of a picture, is larger than the entry's bits can hold.
+    EntryPalette,
+    /// 17: a flip of an entry where there is none.
+    EntryFlip,
+    /// 18: priority of an entry where there is none.
+    EntryPriority,
     /// 11: output buffer shorter than the bytes to be written.
     Output,
     /// 12: no room for the tiles.
     Room,
     /// 13: discarding on, discard counter 4,294,967,295, and an added tile matches.
     Discarded,
-    /// 14: settings lines not as document 01 has them.
-    Settings,
     /// An answer that this crate does not know, which an archive of another interface may give. Only the crate makes
     /// one; [`check_interface`](crate::check_interface) tells such an archive before the first call.
     #[non_exhaustive]
@@ -57,8 +64,9 @@ pub enum Refusal {
 }
 
 impl Refusal {
-    /// Every refusal of document 01, from 1 to 14.
+    /// Every refusal, in the order of the checks.
     pub const ALL: &'static [Refusal] = &[
+        Refusal::Settings,
         Refusal::Mode,
         Refusal::PceSprite,
         Refusal::Depth,
@@ -68,16 +76,19 @@ impl Refusal {
         Refusal::Length,
         Refusal::Pixel,
         Refusal::Component,
-        Refusal::Field,
+        Refusal::EntryTile,
+        Refusal::EntryPalette,
+        Refusal::EntryFlip,
+        Refusal::EntryPriority,
         Refusal::Output,
         Refusal::Room,
         Refusal::Discarded,
-        Refusal::Settings,
     ];
 
-    /// Document 01's number; the archive's own where this crate does not know it.
+    /// Its number; the archive's own where this crate does not know it.
     pub const fn number(self) -> u32 {
         match self {
+            Refusal::Settings => 14,
             Refusal::Mode => 1,
             Refusal::PceSprite => 2,
             Refusal::Depth => 3,
@@ -87,11 +98,13 @@ impl Refusal {
             Refusal::Length => 7,
             Refusal::Pixel => 8,
             Refusal::Component => 9,
-            Refusal::Field => 10,
+            Refusal::EntryTile => 15,
+            Refusal::EntryPalette => 16,
+            Refusal::EntryFlip => 17,
+            Refusal::EntryPriority => 18,
             Refusal::Output => 11,
             Refusal::Room => 12,
             Refusal::Discarded => 13,
-            Refusal::Settings => 14,
             Refusal::Unknown { number } => number,
         }
     }
@@ -104,6 +117,7 @@ impl Refusal {
     /// What it means, for a reader who has no paper at hand.
     pub(crate) const fn words(self) -> &'static str {
         match self {
+            Refusal::Settings => "the sheet is not eight lines of settings and exactly the picture's pixels",
             Refusal::Mode => "the mode number is above 15",
             Refusal::PceSprite => {
                 "pce_sprite has no map entries, no pictures and no cell numbers, and its sets are not read"
@@ -117,11 +131,13 @@ impl Refusal {
             Refusal::Length => "the input is not as long as it must be, or the map names a tile that is not there",
             Refusal::Pixel => "a pixel does not fit the depth",
             Refusal::Component => "a colour component is above the mode's top",
-            Refusal::Field => "the tile index, palette index, flip or priority does not fit the mode's map entry",
+            Refusal::EntryTile => "the tile index is larger than the mode's map entries can name",
+            Refusal::EntryPalette => "the palette index is larger than the mode's map entries can name",
+            Refusal::EntryFlip => "the entry is flipped, and the mode has no flips",
+            Refusal::EntryPriority => "the entry has priority, and the mode has none",
             Refusal::Output => "the output is shorter than the bytes to be written",
             Refusal::Room => "there is no room for the tiles",
             Refusal::Discarded => "the tile is to be discarded, and the count of discarded tiles is at its end",
-            Refusal::Settings => "the sheet is not eight lines of settings and exactly the picture's pixels",
             Refusal::Unknown { .. } => {
                 "the archive answers what this crate does not know: build both from one checkout"
             }
@@ -130,7 +146,7 @@ impl Refusal {
 }
 
 impl TryFrom<u32> for Refusal {
-    /// The number, where it is none of document 01's.
+    /// The number, where it is no refusal's.
     type Error = u32;
 
     fn try_from(number: u32) -> Result<Self, u32> {
@@ -152,7 +168,7 @@ mod tests {
 
     #[test]
     fn a_number_that_is_not_known_is_kept() {
-        for number in [0, 15, 16, 255, u32::MAX] {
+        for number in [0, 10, 19, 255, u32::MAX] {
             let refusal = Refusal::of(number);
             assert_eq!(refusal, Refusal::Unknown { number });
             assert_eq!(refusal.number(), number);
@@ -162,11 +178,12 @@ mod tests {
     }
 
     #[test]
-    fn refusals_are_in_the_order_of_their_numbers() {
-        let numbers = (1..=16).chain([255, u32::MAX - 1, u32::MAX]).collect::<Vec<u32>>();
+    fn refusals_are_in_the_order_of_the_checks() {
+        let known = [14, 1, 2, 3, 4, 5, 6, 7, 8, 9, 15, 16, 17, 18, 11, 12, 13];
+        let numbers = known.into_iter().chain([19, 255, u32::MAX - 1, u32::MAX]).collect::<Vec<u32>>();
         let refusals: Vec<Refusal> = numbers.iter().map(|&number| Refusal::of(number)).collect();
         assert!(refusals.is_sorted());
         assert_eq!(refusals.iter().map(|refusal| refusal.number()).collect::<Vec<u32>>(), numbers);
-        assert_eq!(refusals[..14], *Refusal::ALL);
+        assert_eq!(refusals[..known.len()], *Refusal::ALL);
     }
 }

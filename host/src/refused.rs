@@ -5,7 +5,7 @@ use std::fmt;
 
 use crate::{MapSize, Mode, Refusal, TileSize};
 
-/// What the typed calls answer where they are refused: document 01's refusal, and its cause, told in a sentence that
+/// What the typed calls answer where they are refused: the refusal, and its cause, told in a sentence that
 /// needs no paper at hand. The plain calls on slices answer the [`Refusal`] alone.
 ///
 /// The cause is looked for only when a call was refused; a call that is done pays nothing for it.
@@ -15,9 +15,9 @@ use crate::{MapSize, Mode, Refusal, TileSize};
 ///
 /// let entry = Entry { tile: 4096, ..Entry::default() };
 /// let refused = entry.pack(Mode::Pce, &mut [0; 2]).unwrap_err();
-/// assert_eq!(refused.refusal, Refusal::Field);
+/// assert_eq!(refused.refusal, Refusal::EntryTile);
 /// assert_eq!(refused.cause, Cause::Tile { mode: Mode::Pce, tile: 4096 });
-/// assert_eq!(refused.to_string(), "refused 10: tile index 4096 does not fit pce's 12 bits");
+/// assert_eq!(refused.to_string(), "refused 15: tile index 4096 is too large: pce has tiles 0 to 4095");
 /// ```
 #[derive(Debug, Clone, Copy, PartialEq, Eq, Hash)]
 #[non_exhaustive]
@@ -184,12 +184,16 @@ impl fmt::Display for Depths {
     }
 }
 
-/// The palette index of a mode that has so many bits for it.
-fn write_palette(f: &mut fmt::Formatter<'_>, mode: Mode, palette: u32) -> fmt::Result {
-    match mode.palette_bits() {
-        None | Some(0) => write!(f, "{mode} has no palette index, and {palette} was given"),
-        Some(1) => write!(f, "palette index {palette} does not fit {mode}'s 1 bit"),
-        Some(bits) => write!(f, "palette index {palette} does not fit {mode}'s {bits} bits"),
+/// What so many bits can name: `tile 0 alone`, `palettes 0 to 7`. No bits where the mode has no entries.
+struct Named(&'static str, Option<u32>);
+
+impl fmt::Display for Named {
+    fn fmt(&self, f: &mut fmt::Formatter<'_>) -> fmt::Result {
+        let Named(what, bits) = self;
+        match (1u64 << bits.unwrap_or(0)) - 1 {
+            0 => write!(f, "{what} 0 alone"),
+            last => write!(f, "{what}s 0 to {last}"),
+        }
     }
 }
 
@@ -205,9 +209,11 @@ impl Cause {
             Cause::Flips { mode } => write!(f, "{mode} has no flips"),
             Cause::Priority { mode } => write!(f, "{mode} has no priority"),
             Cause::Tile { mode, tile } => {
-                write!(f, "tile index {tile} does not fit {mode}'s {} bits", mode.tile_bits().unwrap_or(0))
+                write!(f, "tile index {tile} is too large: {mode} has {}", Named("tile", mode.tile_bits()))
             }
-            Cause::Palette { mode, palette } => write_palette(f, mode, palette),
+            Cause::Palette { mode, palette } => {
+                write!(f, "palette index {palette} is too large: {mode} has {}", Named("palette", mode.palette_bits()))
+            }
             Cause::Pixel { depth, value, at } => {
                 write!(f, "pixel {at} is {value}, and depth {depth} holds 0 to {}", top_pixel(depth))
             }

@@ -83,7 +83,7 @@ impl Set {
     ///
     /// # Errors
     ///
-    /// The lowest first: [`Refusal::Mode`], [`Refusal::Depth`], [`Refusal::Size`].
+    /// The first that applies: [`Refusal::Mode`], [`Refusal::Depth`], [`Refusal::Size`].
     ///
     /// # Example
     ///
@@ -105,7 +105,7 @@ impl Set {
     ///
     /// # Errors
     ///
-    /// The lowest first: [`Refusal::Mode`], [`Refusal::Depth`], [`Refusal::Size`].
+    /// The first that applies: [`Refusal::Mode`], [`Refusal::Depth`], [`Refusal::Size`].
     ///
     /// # Example
     ///
@@ -134,7 +134,7 @@ impl Set {
     ///
     /// # Errors
     ///
-    /// The lowest first: [`Refusal::Mode`], [`Refusal::Depth`], [`Refusal::Size`].
+    /// The first that applies: [`Refusal::Mode`], [`Refusal::Depth`], [`Refusal::Size`].
     ///
     /// # Example
     ///
@@ -157,7 +157,7 @@ impl Set {
     ///
     /// # Errors
     ///
-    /// The lowest first: [`Refusal::Mode`], [`Refusal::Depth`], [`Refusal::Size`], [`Refusal::Count`],
+    /// The first that applies: [`Refusal::Mode`], [`Refusal::Depth`], [`Refusal::Size`], [`Refusal::Count`],
     /// [`Refusal::Length`].
     ///
     /// # Example
@@ -190,7 +190,7 @@ impl Set {
     ///
     /// # Errors
     ///
-    /// The lowest first: [`Refusal::Mode`], [`Refusal::Depth`], [`Refusal::Size`], [`Refusal::Count`],
+    /// The first that applies: [`Refusal::Mode`], [`Refusal::Depth`], [`Refusal::Size`], [`Refusal::Count`],
     /// [`Refusal::Length`], [`Refusal::Room`], [`Refusal::Discarded`].
     ///
     /// # Example
@@ -218,7 +218,7 @@ impl Set {
     ///
     /// # Errors
     ///
-    /// The lowest first: [`Refusal::Mode`], [`Refusal::Depth`], [`Refusal::Size`], [`Refusal::Count`],
+    /// The first that applies: [`Refusal::Mode`], [`Refusal::Depth`], [`Refusal::Size`], [`Refusal::Count`],
     /// [`Refusal::Pixel`], [`Refusal::Output`].
     ///
     /// # Example
@@ -247,7 +247,7 @@ impl Set {
     ///
     /// # Errors
     ///
-    /// The lowest first: [`Refusal::Mode`], [`Refusal::PceSprite`], [`Refusal::Depth`], [`Refusal::Size`],
+    /// The first that applies: [`Refusal::Mode`], [`Refusal::PceSprite`], [`Refusal::Depth`], [`Refusal::Size`],
     /// [`Refusal::Length`], [`Refusal::Output`] where the store is too short, [`Refusal::Room`] for more than 65,535
     /// tiles.
     ///
@@ -280,7 +280,7 @@ impl Set {
     ///
     /// # Errors
     ///
-    /// What the set is refused with, whatever its store, the lowest first: [`Refusal::Mode`], [`Refusal::Depth`],
+    /// What the set is refused with, whatever its store, the first that applies: [`Refusal::Mode`], [`Refusal::Depth`],
     /// [`Refusal::Size`], [`Refusal::Count`], with their causes.
     ///
     /// # Example
@@ -346,7 +346,7 @@ pub(crate) fn row_cells(mode: u32) -> usize {
 ///
 /// # Errors
 ///
-/// The lowest first: [`Refusal::Mode`], [`Refusal::PceSprite`], [`Refusal::Size`], the last also for a tile
+/// The first that applies: [`Refusal::Mode`], [`Refusal::PceSprite`], [`Refusal::Size`], the last also for a tile
 /// number above 65,535.
 ///
 /// # Example
@@ -366,7 +366,7 @@ pub fn native_number(mode: impl Into<u32>, width: u32, height: u32, tile: Logica
 ///
 /// # Errors
 ///
-/// The lowest first: [`Refusal::Mode`], [`Refusal::PceSprite`], [`Refusal::Size`], the last also where the tile
+/// The first that applies: [`Refusal::Mode`], [`Refusal::PceSprite`], [`Refusal::Size`], the last also where the tile
 /// number would be above 65,535.
 ///
 /// # Example

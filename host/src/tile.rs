@@ -46,7 +46,7 @@ impl fmt::Display for TileSize {
 ///
 /// # Errors
 ///
-/// The lowest first: [`Refusal::Mode`], [`Refusal::Depth`], [`Refusal::Size`], [`Refusal::Length`],
+/// The first that applies: [`Refusal::Mode`], [`Refusal::Depth`], [`Refusal::Size`], [`Refusal::Length`],
 /// [`Refusal::Pixel`], [`Refusal::Output`].
 ///
 /// # Example
@@ -99,7 +99,7 @@ pub fn pack_tile(
 ///
 /// # Errors
 ///
-/// The lowest first: [`Refusal::Mode`], [`Refusal::Depth`], [`Refusal::Size`], [`Refusal::Length`],
+/// The first that applies: [`Refusal::Mode`], [`Refusal::Depth`], [`Refusal::Size`], [`Refusal::Length`],
 /// [`Refusal::Output`].
 ///
 /// # Example
@@ -157,7 +157,7 @@ const MOST_BYTES: usize = 1024;
 ///
 /// # Errors
 ///
-/// The lowest first: [`Refusal::Mode`], [`Refusal::Depth`], [`Refusal::Size`], [`Refusal::Length`], [`Refusal::Pixel`],
+/// The first that applies: [`Refusal::Mode`], [`Refusal::Depth`], [`Refusal::Size`], [`Refusal::Length`], [`Refusal::Pixel`],
 /// with their causes.
 ///
 /// # Example
@@ -195,7 +195,7 @@ pub fn pack_tile_to_vec(mode: impl Into<u32>, depth: u32, size: TileSize, pixels
 ///
 /// # Errors
 ///
-/// The lowest first: [`Refusal::Mode`], [`Refusal::Depth`], [`Refusal::Size`], [`Refusal::Length`], with their causes.
+/// The first that applies: [`Refusal::Mode`], [`Refusal::Depth`], [`Refusal::Size`], [`Refusal::Length`], with their causes.
 ///
 /// # Example
 ///

@@ -60,7 +60,7 @@ impl SetSettings {
     ///
     /// # Errors
     ///
-    /// What a set of these settings and so many tiles is refused with, the lowest first: [`Refusal::Mode`],
+    /// What a set of these settings and so many tiles is refused with, the first that applies: [`Refusal::Mode`],
     /// [`Refusal::Depth`], [`Refusal::Size`], [`Refusal::Count`] above the limit or 65,535 tiles, with their causes.
     ///
     /// # Example
@@ -86,7 +86,7 @@ impl SetSettings {
     ///
     /// # Errors
     ///
-    /// The lowest first: [`Refusal::Mode`], [`Refusal::PceSprite`], [`Refusal::Size`], the last also for a tile number
+    /// The first that applies: [`Refusal::Mode`], [`Refusal::PceSprite`], [`Refusal::Size`], the last also for a tile number
     /// above 65,535, with their causes. The depth has no part in it.
     ///
     /// # Example
@@ -187,7 +187,7 @@ impl<S: AsRef<[u8]> + AsMut<[u8]>> TileSet<S> {
     ///
     /// # Errors
     ///
-    /// The lowest first: [`Refusal::Mode`], [`Refusal::Depth`], [`Refusal::Size`], with their causes.
+    /// The first that applies: [`Refusal::Mode`], [`Refusal::Depth`], [`Refusal::Size`], with their causes.
     ///
     /// # Example
     ///
@@ -213,7 +213,7 @@ impl<S: AsRef<[u8]> + AsMut<[u8]>> TileSet<S> {
     ///
     /// # Errors
     ///
-    /// The lowest first: [`Refusal::Mode`], [`Refusal::PceSprite`], [`Refusal::Depth`], [`Refusal::Size`],
+    /// The first that applies: [`Refusal::Mode`], [`Refusal::PceSprite`], [`Refusal::Depth`], [`Refusal::Size`],
     /// [`Refusal::Length`], [`Refusal::Output`] where the store is too short, [`Refusal::Room`] for more than 65,535
     /// tiles, with their causes.
     ///
@@ -256,7 +256,7 @@ impl<S: AsRef<[u8]> + AsMut<[u8]>> TileSet<S> {
     ///
     /// # Errors
     ///
-    /// The lowest first: [`Refusal::Count`] where the store is shorter than before, [`Refusal::Length`],
+    /// The first that applies: [`Refusal::Count`] where the store is shorter than before, [`Refusal::Length`],
     /// [`Refusal::Room`], [`Refusal::Discarded`], with their causes.
     pub fn add(&mut self, pixels: &[u8]) -> Result<(), Refused> {
         let TileSet { set, store } = self;
@@ -267,7 +267,7 @@ impl<S: AsRef<[u8]> + AsMut<[u8]>> TileSet<S> {
     ///
     /// # Errors
     ///
-    /// The lowest first: [`Refusal::Count`] where the store is shorter than before, [`Refusal::Length`], with their
+    /// The first that applies: [`Refusal::Count`] where the store is shorter than before, [`Refusal::Length`], with their
     /// causes.
     ///
     /// # Example
@@ -299,7 +299,7 @@ impl<S: AsRef<[u8]> + AsMut<[u8]>> TileSet<S> {
     ///
     /// # Errors
     ///
-    /// The lowest first: [`Refusal::Count`] where the store is shorter than before, [`Refusal::Output`], with their
+    /// The first that applies: [`Refusal::Count`] where the store is shorter than before, [`Refusal::Output`], with their
     /// causes.
     ///
     /// # Example

@@ -157,8 +157,21 @@ fn held(row: &Row, entry: Entry) -> Entry {
     }
 }
 
-/// An entry that its mode holds is answered alike; of any other, the port answers 10 and the Rust packs what the mode
-/// holds of it. The Rust's tile index is not cut to the tile bits.
+/// What the port answers of an entry of which its mode holds this much: the first field's number that differs.
+fn misfit(entry: Entry, held: Entry) -> Refusal {
+    if entry.tile != held.tile {
+        Refusal::EntryTile
+    } else if entry.palette != held.palette {
+        Refusal::EntryPalette
+    } else if (entry.flip_h, entry.flip_v) != (held.flip_h, held.flip_v) {
+        Refusal::EntryFlip
+    } else {
+        Refusal::EntryPriority
+    }
+}
+
+/// An entry that its mode holds is answered alike; of any other, the port answers 15 to 18 and the Rust packs what the
+/// mode holds of it. The Rust's tile index is not cut to the tile bits.
 fn compared_entry_calls(mode: u32, row: &Row, rust: plain::Mode, entry: Entry, random: &mut Random) -> u64 {
     let held = held(row, entry);
     if held == entry {
@@ -169,7 +182,7 @@ fn compared_entry_calls(mode: u32, row: &Row, rust: plain::Mode, entry: Entry, r
     assert_eq!(plain::get_attribute(rust, theirs), plain::get_attribute(rust, rust_entry(held)), "{mode} {entry:?}");
     let uncut = entry.tile.to_le_bytes();
     assert!(uncut.starts_with(&plain::get_tile_index(rust, theirs)), "{mode} {entry:?}");
-    refused_entry_calls(mode, entry, Refusal::Field, random)
+    refused_entry_calls(mode, entry, misfit(entry, held), random)
 }
 
 fn with_every_flag(tile: u32, palette: u32) -> impl Iterator<Item = Entry> {
@@ -575,23 +588,23 @@ const DIFFERENCES: &[(Mode, Call, &str, Refusal)] = &[
     (Mode::Snes,      ScaleUp(32),                "8",        Refusal::Component),
     (Mode::Gb,        ScaleUp(4),                 "84",       Refusal::Component),
     // the Rust packs a field's low bits
-    (Mode::Snes,      PackEntry(tile(1024)),      "00 00",    Refusal::Field),
-    (Mode::Snes,      PackEntry(palette(8)),      "00 00",    Refusal::Field),
-    (Mode::SnesMode7, PackEntry(tile(256)),       "00",       Refusal::Field),
+    (Mode::Snes,      PackEntry(tile(1024)),      "00 00",    Refusal::EntryTile),
+    (Mode::Snes,      PackEntry(palette(8)),      "00 00",    Refusal::EntryPalette),
+    (Mode::SnesMode7, PackEntry(tile(256)),       "00",       Refusal::EntryTile),
     // the Rust passes over what the mode has not
-    (Mode::SnesMode7, PackEntry(palette(1)),      "00",       Refusal::Field),
-    (Mode::SnesMode7, PackEntry(FLIPPED),         "00",       Refusal::Field),
-    (Mode::SnesMode7, PackEntry(IN_FRONT),        "00",       Refusal::Field),
-    (Mode::Gba,       PackEntry(IN_FRONT),        "00 00",    Refusal::Field),
-    (Mode::Pce,       PackEntry(FLIPPED),         "00 00",    Refusal::Field),
+    (Mode::SnesMode7, PackEntry(palette(1)),      "00",       Refusal::EntryPalette),
+    (Mode::SnesMode7, PackEntry(FLIPPED),         "00",       Refusal::EntryFlip),
+    (Mode::SnesMode7, PackEntry(IN_FRONT),        "00",       Refusal::EntryPriority),
+    (Mode::Gba,       PackEntry(IN_FRONT),        "00 00",    Refusal::EntryPriority),
+    (Mode::Pce,       PackEntry(FLIPPED),         "00 00",    Refusal::EntryFlip),
     // the Rust's tile index is not cut to the tile bits; its attribute is of what it packs
-    (Mode::Snes,      TileIndex(tile(1024)),      "00 04",    Refusal::Field),
-    (Mode::Snes,      TileIndex(palette(8)),      "00 00",    Refusal::Field),
-    (Mode::Snes,      TileIndex(tile(65_536)),    "00 00",    Refusal::Field),
-    (Mode::SnesMode7, TileIndex(tile(256)),       "00",       Refusal::Field),
-    (Mode::Snes,      Attribute(tile(1024)),      "0",        Refusal::Field),
-    (Mode::Snes,      Attribute(palette(8)),      "0",        Refusal::Field),
-    (Mode::SnesMode7, Attribute(FLIPPED),         "0",        Refusal::Field),
+    (Mode::Snes,      TileIndex(tile(1024)),      "00 04",    Refusal::EntryTile),
+    (Mode::Snes,      TileIndex(palette(8)),      "00 00",    Refusal::EntryPalette),
+    (Mode::Snes,      TileIndex(tile(65_536)),    "00 00",    Refusal::EntryTile),
+    (Mode::SnesMode7, TileIndex(tile(256)),       "00",       Refusal::EntryTile),
+    (Mode::Snes,      Attribute(tile(1024)),      "0",        Refusal::EntryTile),
+    (Mode::Snes,      Attribute(palette(8)),      "0",        Refusal::EntryPalette),
+    (Mode::SnesMode7, Attribute(FLIPPED),         "0",        Refusal::EntryFlip),
     // the Rust reads a missing byte as 0 and passes over further ones
     (Mode::Snes,      UnpackEntry(&[]),           "0 0 ---",  Refusal::Length),
     (Mode::Snes,      UnpackEntry(&[1]),          "1 0 ---",  Refusal::Length),

@@ -16,6 +16,7 @@ mod tiles;
 use common::{assert_writes, on_noise, rooms, told};
 use reading::{MODES, Random, Row};
 use rumchivoat::{Entry, Mode, Refusal, Rounding};
+use tiles::choices;
 
 /// The sixteen modes and numbers above 15.
 const MODE_NUMBERS: [u32; 21] = [0, 1, 2, 3, 4, 5, 6, 7, 8, 9, 10, 11, 12, 13, 14, 15, 16, 17, 255, 65_536, u32::MAX];
@@ -82,17 +83,18 @@ fn print_count(what: &str, count: u64) {
 }
 
 #[test]
-fn modes_and_refusals_have_document_01s_numbers() {
+fn modes_and_refusals_have_the_documents_numbers() {
     for (number, row) in numbered_rows() {
         let mode = Mode::try_from(number).unwrap();
         assert_eq!((mode.number(), mode.name()), (number, row.name));
         assert_eq!(mode, Mode::ALL[number as usize]);
     }
     assert_eq!(Mode::try_from(16), Err(Refusal::Mode));
-    for number in 1..=14 {
-        assert_eq!(Refusal::try_from(number).map(Refusal::number), Ok(number));
+    for number in 0..=100 {
+        // 10 is no longer given
+        let is_given = (1..=18).contains(&number) && number != 10;
+        assert_eq!(Refusal::try_from(number).map(Refusal::number), if is_given { Ok(number) } else { Err(number) });
     }
-    assert_eq!((Refusal::try_from(0), Refusal::try_from(15)), (Err(0), Err(15)));
     assert_eq!(Refusal::Depth.to_string(), "refused 3: the mode does not have this depth");
 }
 
@@ -127,8 +129,8 @@ fn marked_examples() {
         assert_eq!(out, bytes);
         assert_eq!(rumchivoat::unpack_entry(mode, &bytes), Ok(entry));
     }
-    for entry in [Entry { tile: 4096, ..plain }, Entry { flip_h: true, ..plain }] {
-        assert_eq!(rumchivoat::pack_entry(Mode::Pce, entry, &mut [0; 2]), Err(Refusal::Field));
+    for (entry, refusal) in [(Entry { tile: 4096, ..plain }, 15), (Entry { flip_h: true, ..plain }, 17)] {
+        assert_eq!(told(rumchivoat::pack_entry(Mode::Pce, entry, &mut [0; 2])), Err(refusal));
     }
 }
 
@@ -389,7 +391,7 @@ fn entries_return() {
     }
 }
 
-/// "Where several apply, the lowest number is given."
+/// "Where several apply, the lowest number is given": of colours, of a component and of a reading.
 #[test]
 fn the_lowest_refusal_is_given() {
     let pack = |mode: u32, colors: &[u8], room: usize| told(rumchivoat::pack_colors(mode, colors, &mut vec![0; room]));
@@ -409,14 +411,58 @@ fn the_lowest_refusal_is_given() {
     assert_eq!(told(rumchivoat::scale_up(16u32, u32::MAX)), Err(1));
     assert_eq!(told(rumchivoat::scale_up(0u32, 32)), Err(9));
 
-    let wide = Entry { tile: u32::MAX, palette: u32::MAX, flip_h: true, flip_v: true, priority: true };
-    for (mode, entry, refusal) in [(16u32, wide, 1), (10, wide, 2), (0, wide, 10), (10, Entry::default(), 2)] {
-        assert_eq!(told(rumchivoat::pack_entry(mode, entry, &mut [])), Err(refusal));
-        assert_eq!(told(rumchivoat::tile_index(mode, entry, &mut [])), Err(refusal));
-        assert_eq!(told(rumchivoat::attribute(mode, entry)), Err(refusal));
-    }
-    assert_eq!(told(rumchivoat::pack_entry(0u32, Entry::default(), &mut [])), Err(11));
     assert_eq!(told(rumchivoat::unpack_entry(16u32, &[])), Err(1));
     assert_eq!(told(rumchivoat::unpack_entry(10u32, &[])), Err(2));
     assert_eq!(told(rumchivoat::unpack_entry(0u32, &[])), Err(7));
+}
+
+/// What can be wrong with an entry, "15 tile, 16 palette, 17 flip, 18 priority, checked in that order", with the least
+/// number that its bits cannot hold or a larger one; 17 by h, v or both.
+fn damaged_entries(row: &Row, refusals: &[u32]) -> Vec<Entry> {
+    let has = |refusal| refusals.contains(&refusal);
+    let above = |refusal, bits: u32| if has(refusal) { vec![1 << bits, u32::MAX] } else { vec![0, (1 << bits) - 1] };
+    let flips = if has(17) { vec![(true, false), (false, true), (true, true)] } else { vec![(false, false)] };
+    let mut entries = Vec::new();
+    for tile in above(15, row.tile_bits) {
+        for palette in above(16, row.palette_bits) {
+            for &(flip_h, flip_v) in &flips {
+                entries.push(Entry { tile, palette, flip_h, flip_v, priority: has(18) });
+            }
+        }
+    }
+    entries
+}
+
+/// Whichever of an entry's refusals apply, the first is given by every call that takes an entry: 1, 2, the field's, 11.
+#[test]
+fn the_first_field_is_told() {
+    let mut count = 0;
+    for (mode, row) in numbered_rows() {
+        for refusals in choices(&[1, 2, 15, 16, 17, 18, 11]) {
+            // where the mode has flips or priority 17 and 18 cannot be
+            if (row.flips && refusals.contains(&17)) || (row.priority && refusals.contains(&18)) {
+                continue;
+            }
+            let sprite = row.name == "pce_sprite" && !refusals.contains(&1);
+            let number = if refusals.contains(&1) { 16 } else { mode };
+            let number = if refusals.contains(&2) && number != 16 { 10 } else { number };
+            let first = if sprite { Some(2) } else { refusals.first().copied() };
+            for entry in damaged_entries(row, &refusals) {
+                let space = if refusals.contains(&11) { 0 } else { 2 };
+                let packed = told(rumchivoat::pack_entry(number, entry, &mut [0; 2][..space]));
+                let index = told(rumchivoat::tile_index(number, entry, &mut [0; 2][..space]));
+                assert_eq!(packed.err(), first, "{} {entry:?} {refusals:?}", row.name);
+                assert_eq!(index.err(), first, "{} {entry:?} {refusals:?}", row.name);
+                let attribute = told(rumchivoat::attribute(number, entry));
+                assert_eq!(
+                    attribute.err(),
+                    first.filter(|&refusal| refusal != 11),
+                    "{} {entry:?} {refusals:?}",
+                    row.name
+                );
+                count += 3;
+            }
+        }
+    }
+    print_count("an entry's refusals together", count);
 }

@@ -18,13 +18,21 @@ fn picture(mode: Mode, depth: u32) -> Settings {
 fn entries() {
     let plain = Entry::default();
     let cases = [
-        (Mode::Pce, Entry { tile: 4096, ..plain }, "refused 10: tile index 4096 does not fit pce's 12 bits"),
-        (Mode::Gb, Entry { tile: 256, palette: 1, ..plain }, "refused 10: tile index 256 does not fit gb's 8 bits"),
-        (Mode::Snes, Entry { palette: 8, ..plain }, "refused 10: palette index 8 does not fit snes's 3 bits"),
-        (Mode::Sms, Entry { palette: 2, ..plain }, "refused 10: palette index 2 does not fit sms's 1 bit"),
-        (Mode::Gb, Entry { palette: 1, ..plain }, "refused 10: gb has no palette index, and 1 was given"),
-        (Mode::Pce, Entry { flip_v: true, ..plain }, "refused 10: pce has no flips"),
-        (Mode::Gba, Entry { flip_h: true, priority: true, ..plain }, "refused 10: gba has no priority"),
+        (Mode::Pce, Entry { tile: 4096, ..plain }, "refused 15: tile index 4096 is too large: pce has tiles 0 to 4095"),
+        (
+            Mode::Gb,
+            Entry { tile: 256, palette: 1, ..plain },
+            "refused 15: tile index 256 is too large: gb has tiles 0 to 255",
+        ),
+        (
+            Mode::Snes,
+            Entry { palette: 8, ..plain },
+            "refused 16: palette index 8 is too large: snes has palettes 0 to 7",
+        ),
+        (Mode::Sms, Entry { palette: 2, ..plain }, "refused 16: palette index 2 is too large: sms has palettes 0 to 1"),
+        (Mode::Gb, Entry { palette: 1, ..plain }, "refused 16: palette index 1 is too large: gb has palette 0 alone"),
+        (Mode::Pce, Entry { flip_v: true, ..plain }, "refused 17: pce has no flips"),
+        (Mode::Gba, Entry { flip_h: true, priority: true, ..plain }, "refused 18: gba has no priority"),
         (
             Mode::PceSprite,
             plain,
@@ -42,7 +50,7 @@ fn entries() {
     assert_eq!(words(Entry::unpack(Mode::Gb, &[])), "refused 7: 1 byte is needed, 0 were given");
 }
 
-/// Every entry that is refused with 10 has a cause of its own.
+/// The cause of every refused entry is about the field whose number was given.
 #[test]
 fn every_misfit_has_a_cause() {
     for mode in Mode::ALL {
@@ -53,7 +61,15 @@ fn every_misfit_has_a_cause() {
                 for (tile, palette) in [(number, 0), (0, number)] {
                     let entry = Entry { tile, palette, flip_h, flip_v, priority };
                     if let Err(refused) = entry.pack_to_vec(mode) {
-                        assert_eq!(refused.cause == Cause::Plain, refused.refusal == Refusal::PceSprite, "{refused}");
+                        let cause = match refused.refusal {
+                            Refusal::EntryTile => Cause::Tile { mode, tile },
+                            Refusal::EntryPalette => Cause::Palette { mode, palette },
+                            Refusal::EntryFlip => Cause::Flips { mode },
+                            Refusal::EntryPriority => Cause::Priority { mode },
+                            _ => Cause::Plain,
+                        };
+                        assert_eq!(refused.cause, cause, "{refused}");
+                        assert_eq!(cause == Cause::Plain, mode == Mode::PceSprite, "{refused}");
                     }
                 }
             }
@@ -102,7 +118,10 @@ fn pictures() {
     assert_eq!(convert(wide, &[]), "refused 4: columns and rows are 1 to 64 each, not 65x1");
     assert_eq!(convert(picture(Mode::Pce, 4).flips(), &[0; 128]), "refused 5: pce has no flips");
     assert_eq!(convert(snes, &[0; 127]), "refused 7: 128 pixels are needed, 127 were given");
-    assert_eq!(convert(snes.palette(8), &[0; 128]), "refused 10: palette index 8 does not fit snes's 3 bits");
+    assert_eq!(
+        convert(snes.palette(8), &[0; 128]),
+        "refused 16: palette index 8 is too large: snes has palettes 0 to 7"
+    );
     assert_eq!(convert(snes.limit(1), &[0; 128]), "refused 12: there is room for 1 tile and no more");
     let (mut tiles, mut map) = ([0; 47], [0; 3]);
     let short = snes.convert(&[0; 128], &mut tiles, &mut map);

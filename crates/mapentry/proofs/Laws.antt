@@ -68,11 +68,11 @@ afterPalette m e = cond (not (ltb (bit (e .«flip_h»)) (2 ^ row m .flips))) Fli
 abbrev pub afterTile : ℕ → Mapentry → Misfit
 afterTile m e = cond (not (ltb (e .palette) (2 ^ row m .palette))) Palette (afterPalette m e)
 
-no-misfit : (f : Misfit) → misfitSays f ≡ 0 → f ≡ Nothing
-no-misfit Tile e = absurd (suc-ne-zero 9 e)
-no-misfit Palette e = absurd (suc-ne-zero 9 e)
-no-misfit Flip e = absurd (suc-ne-zero 9 e)
-no-misfit Priority e = absurd (suc-ne-zero 9 e)
+pub no-misfit : (f : Misfit) → misfitSays f ≡ 0 → f ≡ Nothing
+no-misfit Tile e = absurd (eqb-false (misfitSays Tile) 0 refl e)
+no-misfit Palette e = absurd (eqb-false (misfitSays Palette) 0 refl e)
+no-misfit Flip e = absurd (eqb-false (misfitSays Flip) 0 refl e)
+no-misfit Priority e = absurd (eqb-false (misfitSays Priority) 0 refl e)
 no-misfit Nothing e = refl
 
 pub is-entry : (m : ℕ) (e : Mapentry) → entrySays m e ≡ 0 → IsEntry m e

@@ -2,3 +2,4 @@ pub mod Laws
 pub mod Links
 pub mod Trips
 pub mod Lowest
+pub mod Stood

@@ -90,14 +90,15 @@ misfitOf m e =
     (cond (not (ltb (bit (e .priority)) (2 ^ row m .priority))) Priority
     Nothing))))
 
+-- "15 tile, 16 palette, 17 flip, 18 priority": the one place that knows the fields' numbers.
 abbrev pub misfitSays : Misfit → ℕ
-misfitSays Tile = 10
-misfitSays Palette = 10
-misfitSays Flip = 10
-misfitSays Priority = 10
+misfitSays Tile = 15
+misfitSays Palette = 16
+misfitSays Flip = 17
+misfitSays Priority = 18
 misfitSays Nothing = 0
 
--- The checks of every call that takes an entry.
+-- The checks of every call that takes an entry; the fields are "checked in that order where 10 stood".
 abbrev pub entryChecks : ℕ → Mapentry → List ℕ
 entryChecks m e = 1 when ltb 15 m ∷ 2 when eqb m pce-sprite ∷ misfitSays (misfitOf m e) ∷ []
 

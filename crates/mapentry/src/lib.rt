@@ -44,15 +44,15 @@ pub enum Misfit {
     Nothing,
 }
 
-// Document 01's number for what does not fit.
+// The number for what does not fit.
 pub fn misfit_says(f: Misfit) -> u32
     ensures { λ r. ⌜ r ≡ misfitSays f ⌝ }
 {
     match f {
-        Misfit::Tile => refusal::FIELD,
-        Misfit::Palette => refusal::FIELD,
-        Misfit::Flip => refusal::FIELD,
-        Misfit::Priority => refusal::FIELD,
+        Misfit::Tile => refusal::ENTRY_TILE,
+        Misfit::Palette => refusal::ENTRY_PALETTE,
+        Misfit::Flip => refusal::ENTRY_FLIP,
+        Misfit::Priority => refusal::ENTRY_PRIORITY,
         Misfit::Nothing => 0,
     }
 }

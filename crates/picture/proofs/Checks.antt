@@ -4,7 +4,7 @@ use mathlib.Core.Path.{_≡_, refl, sym, ap, _∙_, subst}
 use mathlib.Core.Bool.{Bool, true, false, not, cond, _&&_}
 use mathlib.Core.List.{List, [], _∷_}
 use Prim.Native.Nat.{ℕ, _*_, _/_, _^_, _<_, _≤_}
-use native.Mathlib.Nat.{suc-ne-zero, mul-le-mul, le-trans, le-div-iff-mul-le}
+use native.Mathlib.Nat.{mul-le-mul, le-trans, le-div-iff-mul-le}
 use native.Mathlib.Omega.{arith}
 use lib.Dec.{T, leb, ltb, eqb, ltb→lt, leb→le}
 use lib.ListN.{length, getD}
@@ -16,9 +16,7 @@ use Rattle.words.proofs.Order.{first-append, next-given}
 use Rattle.words.proofs.Loops.{both-left, both-right}
 use Rattle.mode.specs.Table.{row, oneOf, hasDepth, pce-sprite}
 use Rattle.mapentry.specs.Entry.{misfitOf, misfitSays}
-use Rattle.mapentry.specs.declared.Misfit.{Misfit}
-use Rattle.mapentry.specs.declared.Misfit.the-variants.{Tile, Palette, Flip, Priority, Nothing}
-use Rattle.mapentry.proofs.Laws.{small, fitting}
+use Rattle.mapentry.proofs.Laws.{small, fitting, no-misfit}
 use Rattle.tile.specs.Tile.{tileSays}
 use Rattle.tile.proofs.Native.{Native}
 use Rattle.tileset.specs.Sets.{sides, setSays}
@@ -100,13 +98,6 @@ few-tiles {columns = columns} {rows = rows} s = mul-le-mul {n₁ = columns} {m�
 
 -- ---- the checks of a conversion but the last
 
-none-said : (f : Misfit) → misfitSays f ≡ 0 → f ≡ Nothing
-none-said Tile e = absurd (suc-ne-zero 9 e)
-none-said Palette e = absurd (suc-ne-zero 9 e)
-none-said Flip e = absurd (suc-ne-zero 9 e)
-none-said Priority e = absurd (suc-ne-zero 9 e)
-none-said Nothing e = refl
-
 module _ (z : Settings) (len space : ℕ) where
   abbrev size : ℕ
   size = sizeSays (z .mode) (z .depth) (z .columns) (z .rows)
@@ -157,8 +148,8 @@ module _ (z : Settings) (len space : ℕ) where
         to-misfit : askedSays z len space ≡ firstApplying (misfit ∷ from-11)
         to-misfit = asked-is ∙ next-given from-5 s ∙ next-given from-7 (not-5 f) ∙ next-given (misfit ∷ from-11) (not-7 l)
 
-        pub asked-10 : (n : ℕ) → n ≡ misfit → (n ≡ 0 → ⊥) → n ≡ askedSays z len space
-        asked-10 n e h = first-given n from-11 e h ∙ sym to-misfit
+        pub asked-misfit : (n : ℕ) → n ≡ misfit → (n ≡ 0 → ⊥) → n ≡ askedSays z len space
+        asked-misfit n e h = first-given n from-11 e h ∙ sym to-misfit
 
         module _ (p : misfit ≡ 0) where
           pub asked-11 : space < places z * row (z .mode) .entry → 11 ≡ askedSays z len space
@@ -192,7 +183,7 @@ module _ (z : Settings) (len space : ℕ) where
           low = s .low;
           flips = not-given 4 lacks (asked-passed 1);
           whole = eqb-true len (64 * places z) (not-false exact (not-given 6 (not exact) (asked-passed 2)));
-          palette = fitting (z .mode) (entryAs 0 (z .palette) false false) (none-said (misfitOf (z .mode) (entryAs 0 (z .palette) false false)) (asked-passed 3)) .palette;
+          palette = fitting (z .mode) (entryAs 0 (z .palette) false false) (no-misfit (misfitOf (z .mode) (entryAs 0 (z .palette) false false)) (asked-passed 3)) .palette;
         }
 
     pub asked-map : places z * row (z .mode) .entry ≤ space

@@ -9,6 +9,7 @@ pub mod RedrawChecks
 pub mod Drawing
 pub mod Redrawn
 pub mod Room
+pub mod Palette
 pub mod Lowest
 pub mod ByAdding
 pub mod Laws

@@ -1,15 +1,15 @@
 -- The last check of a conversion is the only one that answers 12.
 -- Assumes nothing.
-use mathlib.Core.Path.{_≡_, refl, sym, _∙_}
+use mathlib.Core.Path.{_≡_, refl}
 use mathlib.Core.Bool.{Bool, true, false, not, _&&_}
-use mathlib.Core.List.{List, [], _∷_}
-use Prim.Native.Nat.{ℕ, zero, suc, _*_, _<_}
+use mathlib.Core.List.{List, []}
+use Prim.Native.Nat.{ℕ, _*_, _<_}
 use native.Mathlib.Omega.{arith}
 use lib.Dec.{ltb, eqb}
 use lib.ListN.{length}
 use borrow.Author.Tests.{ltb-true, eqb-false}
-use Rattle.words.specs.Answers.{_when_, firstApplying}
-use Rattle.words.proofs.Answers.{last-given}
+use Rattle.words.specs.Answers.{_when_}
+use Rattle.words.proofs.Order.{Never, never-when, only-given}
 use Rattle.mode.specs.Table.{row, hasDepth, pce-sprite}
 use Rattle.mapentry.specs.Entry.{misfitOf, misfitSays}
 use Rattle.mapentry.specs.declared.Misfit.{Misfit}
@@ -18,27 +18,11 @@ use Rattle.picture.specs.Entries.{entryAs}
 use Rattle.picture.specs.Converting.{places, needOf, pictureRoom, isSpan, askedChecks, convertSays}
 use Rattle.picture.specs.Inner.{askedSays}
 use Rattle.picture.specs.declared.Settings.{Settings}
-use Rattle.picture.proofs.Checks.{convert-is}
 
 -- what is known of each check of a list, one after the other
 infixr 20 _also_
 pub _also_ : {A B : Type 0} → A → B → A × B
 a also b = (a, b)
-
--- some checks of which none gives 12
-abbrev Never12 : List ℕ → Type 0
-Never12 [] = Unit {0}
-Never12 (n ∷ ns) = (n ≡ 12 → ⊥) × Never12 ns
-
-first-not : (ns : List ℕ) → Never12 ns → firstApplying ns ≡ 12 → ⊥
-first-not [] h e = omega arith
-first-not (zero ∷ ns) h e = first-not ns (h .1) e
-first-not (suc n ∷ ns) h e = h .0 e
-
--- a check whose own number is not 12, as is computed
-when-not : (n : ℕ) (b : Bool) → eqb n 12 ≡ false → n when b ≡ 12 → ⊥
-when-not n true e q = eqb-false n 12 e q
-when-not n false e q = omega arith
 
 misfit-not : (f : Misfit) → misfitSays f ≡ 12 → ⊥
 misfit-not Tile = eqb-false (misfitSays Tile) 12 refl
@@ -54,24 +38,22 @@ above room need e = case (ltb room need) refl e
     case true q e = ltb-true room need q
     case false q e = let no : ⊥ = omega arith in absurd no
 
-last-means : (room need n : ℕ) → (n ≡ 12 → ⊥) → firstApplying (n ∷ 12 when ltb room need ∷ []) ≡ 12 → (n ≡ 0) × (room < need)
-last-means room need zero h e = (refl, above room need (last-given (12 when ltb room need) ∙ e))
-last-means room need (suc n) h e = absurd (h e)
-
 module _ (z : Settings) (pixels : List ℕ) (tileSpace mapSpace : ℕ) where
-  asked-not : askedSays z (length pixels) mapSpace ≡ 12 → ⊥
-  unfolding askedSays
+  asked-not : Never 12 (askedChecks z (length pixels) mapSpace)
   asked-not =
-      first-not (askedChecks z (length pixels) mapSpace) (when-not 1 (ltb 15 (z .mode)) refl
-      also when-not 2 (eqb (z .mode) pce-sprite) refl
-      also when-not 3 (not (hasDepth (z .mode) (z .depth))) refl
-      also when-not 4 (not (isSpan (z .columns) && isSpan (z .rows))) refl
-      also when-not 5 (z .flip && eqb (row (z .mode) .flips) 0) refl
-      also when-not 7 (not (eqb (length pixels) (64 * places z))) refl
+      never-when 12 refl 1 (ltb 15 (z .mode)) refl
+      also never-when 12 refl 2 (eqb (z .mode) pce-sprite) refl
+      also never-when 12 refl 3 (not (hasDepth (z .mode) (z .depth))) refl
+      also never-when 12 refl 4 (not (isSpan (z .columns) && isSpan (z .rows))) refl
+      also never-when 12 refl 5 (z .flip && eqb (row (z .mode) .flips) 0) refl
+      also never-when 12 refl 7 (not (eqb (length pixels) (64 * places z))) refl
       also misfit-not (misfitOf (z .mode) (entryAs 0 (z .palette) false false))
-      also when-not 11 (ltb mapSpace (places z * row (z .mode) .entry)) refl
-      also tt)
+      also never-when 12 refl 11 (ltb mapSpace (places z * row (z .mode) .entry)) refl
+      also tt
 
   pub convert-full : convertSays z pixels tileSpace mapSpace ≡ 12 → (askedSays z (length pixels) mapSpace ≡ 0) × (pictureRoom z tileSpace < needOf 8 8 z pixels)
+  unfolding askedSays convertSays
   convert-full e =
-      last-means (pictureRoom z tileSpace) (needOf 8 8 z pixels) (askedSays z (length pixels) mapSpace) asked-not (sym (convert-is z pixels tileSpace mapSpace) ∙ e)
+      let full = ltb (pictureRoom z tileSpace) (needOf 8 8 z pixels) in
+      let given = only-given 12 refl (askedChecks z (length pixels) mapSpace) [] full asked-not tt e in
+      (given .0, ltb-true (pictureRoom z tileSpace) (needOf 8 8 z pixels) (given .1))

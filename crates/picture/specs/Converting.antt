@@ -66,8 +66,9 @@ sizeChecks m d columns rows =
 unfoldable pub sizeSays : ℕ → ℕ → ℕ → ℕ → ℕ
 sizeSays m d columns rows = firstApplying (sizeChecks m d columns rows)
 
--- "Picture with flips on in a mode without flips" (5), "input length not the one required" (7), "a picture's palette index too large" (10),
--- "output buffer shorter than the bytes to be written" (11, the map), "no room for the tiles" (12). In: the lengths of pixels, tile buffer and map.
+-- "Picture with flips on in a mode without flips" (5), "input length not the one required" (7), "a picture's palette index too large" (its field's
+-- number), "output buffer shorter than the bytes to be written" (11, the map), "no room for the tiles" (12). In: the lengths of pixels, tile buffer
+-- and map.
 abbrev pub askedChecks : Settings → ℕ → ℕ → List ℕ
 askedChecks z len mapSpace =
     sizeChecks (z .mode) (z .depth) (z .columns) (z .rows)

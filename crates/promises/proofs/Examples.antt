@@ -89,10 +89,10 @@ examples =
     ∷ packs 0 513 5 true false true (0x01 ∷ 0x76 ∷ [])
     -- (j) md 801, palette 2, v: 53 21
     ∷ packs 6 801 2 false true false (0x53 ∷ 0x21 ∷ [])
-    -- (k) pce 4095, 15: ff ff; 4096 or h: 10
+    -- (k) pce 4095, 15: ff ff; 4096: 15; h: 17
     ∷ packs 9 4095 15 false false false (0xff ∷ 0xff ∷ [])
-    ∷ refuses 9 4096 15 false false false 10
-    ∷ refuses 9 4095 15 true false false 10
+    ∷ refuses 9 4096 15 false false false 15
+    ∷ refuses 9 4095 15 true false false 17
     -- (l) snes 16x16: tile 8 at 32, cell 33 in tile 8; nine tiles write 64 cells and read as 16
     ∷ answers (nativeSays 0 16 16 8) (firstCell 0 16 16 8) 32
     ∷ answers (logicalSays 0 16 16 33) (tileOf 0 16 16 33) 8

@@ -1,8 +1,8 @@
 -- Which number the program tells: 14 exactly where the input is no sheet, and 11 never.
 -- Assumes nothing.
-use Prim.Native.Nat.{ℕ, zero, suc, _*_, _<_, _≤_}
+use Prim.Native.Nat.{ℕ, zero, suc, _*_, _^_, _<_, _≤_}
 use mathlib.Core.Path.{_≡_, refl, sym, ap, _∙_, subst}
-use mathlib.Core.Bool.{Bool, false, not, _&&_}
+use mathlib.Core.Bool.{Bool, not, _&&_}
 use mathlib.Core.Logic.{⊎-elim}
 use mathlib.Core.List.{List, [], _∷_}
 use native.Mathlib.Nat.{mul-le-mul}
@@ -14,12 +14,11 @@ use Rattle.words.specs.Answers.{_when_, firstApplying}
 use Rattle.words.specs.declared.Written.{Written}
 use Rattle.words.proofs.Loops.{either, all-at}
 use Rattle.mode.specs.Table.{row, oneOf, hasDepth, pce-sprite}
-use Rattle.mapentry.specs.Entry.{misfitOf, misfitSays}
-use Rattle.mapentry.specs.declared.Misfit.{Misfit}
-use Rattle.mapentry.specs.declared.Misfit.the-variants.{Tile, Palette, Flip, Priority, Nothing}
+use Rattle.mapentry.specs.Entry.{misfitSays}
+use Rattle.mapentry.specs.declared.Misfit.the-variants.{Palette}
 use Rattle.picture.specs.declared.Settings.{Settings}
 use Rattle.picture.specs.Converting.{places, isSpan, pictureRoom, needOf, convertChecks, convertSays}
-use Rattle.picture.specs.Entries.{entryAs}
+use Rattle.picture.proofs.Palette.{palette-field}
 use Rattle.sheet.specs.Sheet.{sheetLines, sideMost, valuesOf, sheetIn, Within, IsSheet}
 use Rattle.sheet.specs.Program.{tileSpace, mapSpace, outSpace, pictureSays, sheetNumber, numberOf, textOf, Ran}
 use Rattle.sheet.specs.declared.Sheet.{Sheet}
@@ -31,7 +30,7 @@ use Rattle.sheet.proofs.Fitting.{run-answers}
 
 -- the numbers of a conversion's checks, but for the map's: its space is enough for every sheet
 abbrev numbers : List ℕ
-numbers = 0 ∷ 1 ∷ 2 ∷ 3 ∷ 4 ∷ 5 ∷ 7 ∷ 10 ∷ 12 ∷ []
+numbers = 0 ∷ 1 ∷ 2 ∷ 3 ∷ 4 ∷ 5 ∷ 7 ∷ misfitSays Palette ∷ 12 ∷ []
 
 unfoldable Among : ℕ → Type 0
 Among n = T (oneOf n numbers)
@@ -49,14 +48,6 @@ first-among (suc n ∷ ns) h = h .0
 when-among : (n : ℕ) (b : Bool) → Among n → Among (n when b)
 unfolding Among
 when-among n b h = either Among b n 0 h tt
-
-misfit-among : (f : Misfit) → Among (misfitSays f)
-unfolding Among
-misfit-among Tile = tt
-misfit-among Palette = tt
-misfit-among Flip = tt
-misfit-among Priority = tt
-misfit-among Nothing = tt
 
 -- a sheet's map has 32 x 32 entries of two bytes at most
 map-fits : (z : Settings) → Within sheetLines (valuesOf z) → places z * row (z .mode) .entry ≤ mapSpace
@@ -76,7 +67,8 @@ says-among z pixels w =
     let sized = when-among 4 (not (isSpan (z .columns) && isSpan (z .rows))) tt in
     let flips = when-among 5 (z .flip && eqb (row (z .mode) .flips) 0) tt in
     let whole = when-among 7 (not (eqb (length pixels) (64 * places z))) tt in
-    let fits = misfit-among (misfitOf (z .mode) (entryAs 0 (z .palette) false false)) in
+    let held = when-among (misfitSays Palette) (not (ltb (z .palette) (2 ^ row (z .mode) .palette))) tt in
+    let fits = subst Among (sym (palette-field (z .mode) (z .palette))) held in
     let room = when-among 12 (ltb (pictureRoom z tileSpace) (needOf 8 8 z pixels)) tt in
     first-among (convertChecks z pixels tileSpace mapSpace)
     (known, (mapped, (deep, (sized, (flips, (whole, (fits, (subst Among (sym enough) tt, (room, tt)))))))))

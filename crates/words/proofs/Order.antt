@@ -1,13 +1,14 @@
 -- A call's checks in the order of their numbers: the first that applies is the lowest.
 -- Assumes nothing.
-use mathlib.Core.Path.{_≡_, refl, sym, _∙_}
+use mathlib.Core.Path.{_≡_, refl, sym, ap, _∙_}
 use mathlib.Core.Bool.{Bool, true, false, _&&_}
 use mathlib.Core.List.{List, [], _∷_, _++_}
 use mathlib.Core.Logic.{_⊎_, inl, inr}
 use Prim.Native.Nat.{ℕ, zero, suc, _≤_}
 use native.Mathlib.Nat.{suc-ne-zero}
 use native.Mathlib.Omega.{arith}
-use lib.Dec.{T, leb, leb→le}
+use lib.Dec.{T, leb, eqb, leb→le}
+use borrow.Author.Tests.{eqb-false}
 use Rattle.words.specs.Answers.{_when_, firstApplying, lower, lowest}
 use Rattle.words.proofs.Answers.{all-passed, first-given}
 use Rattle.words.proofs.Loops.{both-left, both-right}
@@ -23,6 +24,12 @@ pub next-given : {n : ℕ} (ns : List ℕ) → n ≡ 0 → firstApplying (n ∷ 
 next-given {n = zero} ns e = refl
 next-given {n = suc n} ns e = absurd (suc-ne-zero n e)
 
+-- checks that answer alike, after others
+pub first-alike : (ns xs ys : List ℕ) → firstApplying xs ≡ firstApplying ys → firstApplying (ns ++ xs) ≡ firstApplying (ns ++ ys)
+first-alike [] xs ys e = e
+first-alike (zero ∷ ns) xs ys e = first-alike ns xs ys e
+first-alike (suc n ∷ ns) xs ys e = refl
+
 -- a number of the first list is given, all of the first list passed, and both did
 module _ (xs ys : List ℕ) where
   pub checks-given : (n : ℕ) → n ≡ firstApplying xs → (n ≡ 0 → ⊥) → n ≡ firstApplying (xs ++ ys)
@@ -36,6 +43,36 @@ module _ (xs ys : List ℕ) where
 
   pub checks-rest : firstApplying (xs ++ ys) ≡ 0 → firstApplying ys ≡ 0
   checks-rest e = sym (checks-after (checks-first e)) ∙ e
+
+-- some checks of which none gives n
+abbrev pub Never : ℕ → List ℕ → Type 0
+Never n [] = Unit {0}
+Never n (k ∷ ks) = (k ≡ n → ⊥) × Never n ks
+
+module _ (n : ℕ) (some : eqb n 0 ≡ false) where
+  -- a check of another number, as is computed
+  pub never-when : (k : ℕ) (b : Bool) → eqb k n ≡ false → k when b ≡ n → ⊥
+  never-when k true e q = eqb-false k n e q
+  never-when k false e q = eqb-false n 0 some (sym q)
+
+  never-first : (ks : List ℕ) → Never n ks → firstApplying ks ≡ n → ⊥
+  never-first [] h e = eqb-false n 0 some (sym e)
+  never-first (zero ∷ ks) h e = never-first ks (h .1) e
+  never-first (suc k ∷ ks) h e = h .0 e
+
+  -- the one check of its number gives it exactly when those before it passed and it applies
+  pub only-given : (before after : List ℕ) (b : Bool) → Never n before → Never n after
+      → firstApplying (before ++ n when b ∷ after) ≡ n → (firstApplying before ≡ 0) × (b ≡ true)
+  only-given [] after true h k e = (refl, refl)
+  only-given [] after false h k e = absurd (never-first after k e)
+  only-given (zero ∷ before) after b h k e = only-given before after b (h .1) k e
+  only-given (suc j ∷ before) after b h k e = absurd (h .0 e)
+
+  pub then-given : (before after : List ℕ) (b : Bool) → firstApplying before ≡ 0 → b ≡ true → firstApplying (before ++ n when b ∷ after) ≡ n
+  then-given before after b z applies =
+      checks-after before (n when b ∷ after) z
+      ∙ ap (λ (c : Bool). firstApplying (n when c ∷ after)) applies
+      ∙ sym (first-given n after refl (eqb-false n 0 some))
 
 -- the test that is computed of a call's numbers
 abbrev rising : ℕ → List ℕ → Bool

@@ -13,14 +13,15 @@ infix 80 _when_
 abbrev pub _when_ : ℕ → Bool → ℕ
 n when b = cond b n 0
 
--- A call's checks stand in one list, in the order of their numbers, and the first that applies is answered.
+-- A call's checks stand in one list, in their order, and the first that applies is answered.
 abbrev pub firstApplying : List ℕ → ℕ
 firstApplying [] = 0
 firstApplying (zero ∷ ns) = firstApplying ns
 firstApplying (suc n ∷ ns) = suc n
 
--- "Where several apply, the lowest number is given": of some numbers, where 0 stands for a check that does not apply. That the first is the lowest,
--- for every call's list, is proved (promises, Lowest).
+-- "Where several apply, the lowest number is given": of some numbers, where 0 stands for a check that does not apply. That the first is the lowest is
+-- proved for every call's list (Lowest of each crate); of those with an entry's fields, whose numbers stand "where 10 stood", with 10 for each of
+-- them (mapentry and picture, Stood and Lowest).
 abbrev pub lower : ℕ → ℕ → ℕ
 lower zero k = k
 lower (suc n) zero = suc n

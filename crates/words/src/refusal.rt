@@ -1,4 +1,5 @@
-// What the station is told: document 01's numbers. 0 means done.
+// What the station is told: the papers' numbers. 0 means done. A call answers the first of its checks that applies; they stand in the order of
+// their numbers, but for 15 to 18, which stand before 11, and 14, before all. 10 is no longer given: 15 to 18 stand in its place.
 // Mode number above 15.
 pub const MODE: u32 = 1;
 
@@ -26,9 +27,6 @@ pub const PIXEL: u32 = 8;
 // A component r, g or b above the top, gray modes included.
 pub const COMPONENT: u32 = 9;
 
-// An entry field its bits cannot hold, a flip or priority where there is none, or a picture's palette index too large.
-pub const FIELD: u32 = 10;
-
 // Output buffer shorter than the bytes to be written.
 pub const OUTPUT: u32 = 11;
 
@@ -40,3 +38,15 @@ pub const DISCARDED: u32 = 13;
 
 // Program only, before all others: settings lines not as document 01 has them.
 pub const SETTINGS: u32 = 14;
+
+// A field of an entry that its bits cannot hold: the tile index.
+pub const ENTRY_TILE: u32 = 15;
+
+// The palette index, a picture's too.
+pub const ENTRY_PALETTE: u32 = 16;
+
+// A flip where there is none.
+pub const ENTRY_FLIP: u32 = 17;
+
+// Priority where there is none.
+pub const ENTRY_PRIORITY: u32 = 18;

@@ -1,11 +1,12 @@
-//! What definitions, code and documents quote of document 01, held to document 01.
+//! What definitions, code and documents quote of documents 01 and 02, held to them.
 
 use std::fs;
 use std::io::Write;
 
 use papers::{files, read, top};
 
-const DOCUMENT: &str = "../shared/docs/01-scope.md";
+/// The paper, and what customers asked of it since.
+const DOCUMENTS: [&str; 2] = ["../shared/docs/01-scope.md", "../shared/docs/02-change-requests.md"];
 
 /// White space folded, and the marks of Markdown left out.
 fn folded(text: &str) -> String {
@@ -32,7 +33,7 @@ fn comments(text: &str, mark: &str) -> Vec<String> {
     found
 }
 
-/// Whether a quotation stands in the document: each of its parts between marks of a cut, in this order. Its first letter
+/// Whether a quotation stands in a document: each of its parts between marks of a cut, in this order. Its first letter
 /// may be small or great, and a point or comma that ends it may be the sentence's that quotes it.
 fn stands(document: &str, quotation: &str) -> bool {
     let mut rest = document;
@@ -52,13 +53,16 @@ fn stands(document: &str, quotation: &str) -> bool {
 }
 
 #[test]
-fn quotations_are_document_01s() {
-    let Ok(document) = fs::read_to_string(top().join(DOCUMENT)) else {
-        let words = format!("skipped: {DOCUMENT} is not there, so no quotation was compared with it\n");
-        std::io::stderr().write_all(words.as_bytes()).expect("standard error takes a line");
-        return;
-    };
-    let document = folded(&document);
+fn quotations_are_the_documents() {
+    let mut documents = Vec::new();
+    for path in DOCUMENTS {
+        let Ok(document) = fs::read_to_string(top().join(path)) else {
+            let words = format!("skipped: {path} is not there, so no quotation was compared\n");
+            std::io::stderr().write_all(words.as_bytes()).expect("standard error takes a line");
+            return;
+        };
+        documents.push(folded(&document));
+    }
     let mut wrong = Vec::new();
     let mut count = 0;
     for (ending, mark) in [(".antt", "-- "), (".rt", "// ")] {
@@ -66,13 +70,14 @@ fn quotations_are_document_01s() {
             for comment in comments(&read(&path), mark) {
                 for quotation in comment.split('"').skip(1).step_by(2) {
                     count += 1;
-                    if !stands(&document, &folded(quotation)) {
+                    let quotation = folded(quotation);
+                    if !documents.iter().any(|document| stands(document, &quotation)) {
                         wrong.push(format!("{path}: \"{quotation}\""));
                     }
                 }
             }
         }
     }
-    assert!(wrong.is_empty(), "not document 01's words:\n{}", wrong.join("\n"));
+    assert!(wrong.is_empty(), "not the words of documents 01 and 02:\n{}", wrong.join("\n"));
     assert!(count > 100, "only {count} quotations were found");
 }

@@ -65,19 +65,22 @@ fn entry_row(mode: u32) -> Answer<&'static Row> {
     if row.name == "pce_sprite" { Err(2) } else { Ok(row) }
 }
 
-/// Refusal 10: "an entry field its bits cannot hold, a flip or priority where there is none".
+/// "An entry field its bits cannot hold, a flip or priority where there is none": "15 tile, 16 palette, 17 flip, 18
+/// priority, checked in that order".
 fn checked_row(mode: u32, entry: Entry) -> Answer<&'static Row> {
     let row = entry_row(mode)?;
     let too_wide = |number: u32, bits: u32| u64::from(number) >= 2u64.pow(bits);
     let flipped = entry.flip_h || entry.flip_v;
-    if too_wide(entry.tile, row.tile_bits)
-        || too_wide(entry.palette, row.palette_bits)
-        || (flipped && !row.flips)
-        || (entry.priority && !row.priority)
-    {
-        return Err(10);
+    let faults = [
+        (15, too_wide(entry.tile, row.tile_bits)),
+        (16, too_wide(entry.palette, row.palette_bits)),
+        (17, flipped && !row.flips),
+        (18, entry.priority && !row.priority),
+    ];
+    match faults.into_iter().find(|&(_, fault)| fault) {
+        Some((refusal, _)) => Err(refusal),
+        None => Ok(row),
     }
-    Ok(row)
 }
 
 fn bit_of(number: u32, place: u32) -> bool {
@@ -100,7 +103,7 @@ fn byte_of(bits: impl DoubleEndedIterator<Item = bool>) -> u8 {
     bits.rev().fold(0, |byte, bit| byte * 2 + u8::from(bit))
 }
 
-/// Refusals 1, 2, 10, 11. "First byte is the tile index's low 8 bits (md: second byte)."
+/// Refusals 1, 2, 15 to 18, 11. "First byte is the tile index's low 8 bits (md: second byte)."
 pub fn pack_entry(mode: u32, entry: Entry, out: &mut [u8]) -> Answer<usize> {
     let row = checked_row(mode, entry)?;
     let low = (entry.tile % 256) as u8;
@@ -136,7 +139,7 @@ pub fn unpack_entry(mode: u32, bytes: &[u8]) -> Answer<Entry> {
     Ok(entry)
 }
 
-/// Refusals 1, 2, 10, 11. "Two bytes, low first, where tile bits exceed 8, gbc one."
+/// Refusals 1, 2, 15 to 18, 11. "Two bytes, low first, where tile bits exceed 8, gbc one."
 pub fn tile_index(mode: u32, entry: Entry, out: &mut [u8]) -> Answer<usize> {
     let row = checked_row(mode, entry)?;
     let two = [(entry.tile % 256) as u8, (entry.tile / 256) as u8];
@@ -144,8 +147,8 @@ pub fn tile_index(mode: u32, entry: Entry, out: &mut [u8]) -> Answer<usize> {
     write(&two[..length], out)
 }
 
-/// Refusals 1, 2, 10. "The non-tile bits of the second byte (md: the first; gbc: tile bit 8 too ..), 0 where an entry
-/// has one byte."
+/// Refusals 1, 2, 15 to 18. "The non-tile bits of the second byte (md: the first; gbc: tile bit 8 too ..), 0 where an
+/// entry has one byte."
 pub fn attribute(mode: u32, entry: Entry) -> Answer<u32> {
     let row = checked_row(mode, entry)?;
     let Some(bits) = other_byte(row.name) else {

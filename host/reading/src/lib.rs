@@ -1,8 +1,8 @@
-//! Document 01 read once more, in plain Rust.
+//! Document 01, with what document 02 changes of it, read once more, in plain Rust.
 //!
-//! Nothing here is taken from the port or from the Rust: each definition follows a sentence of document 01, by sums,
+//! Nothing here is taken from the port or from the Rust: each definition follows a sentence of the documents, by sums,
 //! quotients and lists of bits rather than by masks and shifts, so that a slip of one is not repeated in another. Every
-//! call answers as the station's calls do: a refusal is document 01's number, and lent bytes change only on success.
+//! call answers as the station's calls do: a refusal is the documents' number, and lent bytes change only on success.
 
 mod channel;
 mod colors;

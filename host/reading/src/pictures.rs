@@ -100,7 +100,7 @@ fn entry_of(place: Place, palette: u32) -> Entry {
     Entry { tile: place, palette, flip_h, flip_v, priority: false }
 }
 
-/// Refusals 1, 2, 3, 4, 5, 7, 10, 11, 12. "Tiles are taken .. as by adding to an empty set; each entry has the look-up's
+/// Refusals 1, 2, 3, 4, 5, 7, 16, 11, 12. "Tiles are taken .. as by adding to an empty set; each entry has the look-up's
 /// place and flip, the given palette index, priority 0."
 pub fn convert(settings: Settings, pixels: &[u8], tiles: &mut [u8], map: &mut [u8]) -> Answer<Picture> {
     let Settings { mode, depth, flip, discard, palette, columns, rows, .. } = settings;
@@ -113,7 +113,7 @@ pub fn convert(settings: Settings, pixels: &[u8], tiles: &mut [u8], map: &mut [u
         return Err(7);
     }
     if u64::from(palette) >= 2u64.pow(row.palette_bits) {
-        return Err(10);
+        return Err(16);
     }
     if map.len() < count * row.entry_bytes {
         return Err(11);

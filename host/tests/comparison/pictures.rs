@@ -268,7 +268,7 @@ pub fn there_and_back() -> u64 {
     count
 }
 
-/// The port answers 5 and 10; the Rust drops the flips that a mode has not, and packs the palette index's low bits.
+/// The port answers 5 and 16; the Rust drops the flips that a mode has not, and packs the palette index's low bits.
 pub fn flips_and_palettes_that_are_none() -> u64 {
     let (mut count, mut random) = (0, Random::new(80));
     let room = |settings: Settings| (places(settings) * tile_size(settings), map_bytes(settings));
@@ -285,7 +285,7 @@ pub fn flips_and_palettes_that_are_none() -> u64 {
         for palette in [above, 2 * above, 256 * above] {
             let settings = Settings { palette, ..settings };
             assert!(rust_converts(settings, &pixels).map == plain_map, "{settings:?}");
-            count += converts_to(settings, &pixels, room(settings), Err(10), &mut random);
+            count += converts_to(settings, &pixels, room(settings), Err(16), &mut random);
         }
     }
     count
@@ -381,8 +381,8 @@ fn differences_of_conversion(random: &mut Random) -> u64 {
     differ(snes, &[0; 63], None, 7);
     differ(snes, &[0; 65], Some(blank()), 7);
     // the Rust packs the low bits of a palette index
-    differ(Settings { palette: 8, ..snes }, &[0; 64], Some(blank()), 10);
-    differ(Settings { palette: 1, ..gb }, &[0; 64], Some(made(1, &[0; 8], &[0])), 10);
+    differ(Settings { palette: 8, ..snes }, &[0; 64], Some(blank()), 16);
+    differ(Settings { palette: 1, ..gb }, &[0; 64], Some(made(1, &[0; 8], &[0])), 16);
     // the Rust stores more tiles than the limit, and says then that the set is full
     let limited = Settings { limit: 1, columns: 2, ..gb };
     let two = picture_of(limited, &[vec![0; 64], vec![1; 64]]);

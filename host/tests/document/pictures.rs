@@ -315,17 +315,17 @@ fn damaged(settings: Settings, refusals: &[u32]) -> Settings {
         depth: if has(3) { 3 } else { settings.depth },
         rows: if has(4) { 65 } else { settings.rows },
         flip: has(5),
-        palette: if has(10) { 16 } else { 0 },
+        palette: if has(16) { 16 } else { 0 },
         ..settings
     }
 }
 
-/// "Where several apply, the lowest number is given": whichever of a conversion's do.
+/// The first of a conversion's is given, whichever apply: the lowest number, and 16 "where 10 stood".
 #[test]
-fn the_lowest_refusal_of_conversion() {
+fn the_first_refusal_of_conversion() {
     for settings in picture_modes() {
         let settings = Settings { columns: 2, ..settings };
-        for refusals in choices(&[1, 2, 3, 4, 5, 7, 10, 11, 12]) {
+        for refusals in choices(&[1, 2, 3, 4, 5, 7, 16, 11, 12]) {
             // with flips 5 cannot be
             if row_of(settings).flips && refusals.contains(&5) {
                 continue;

@@ -11,7 +11,7 @@ use Rattle.mapentry.proofs.Laws.{small}
 use Rattle.picture.specs.Entries.{entryAs}
 use Rattle.picture.specs.Converting.{places, sizeSays}
 use Rattle.picture.specs.declared.Settings.{Settings}
-use Rattle.picture.proofs.Checks.{IsSize, size-of, few-tiles, asked-size, asked-5, asked-7, asked-10, asked-11, asked-0}
+use Rattle.picture.proofs.Checks.{IsSize, size-of, few-tiles, asked-size, asked-5, asked-7, asked-misfit, asked-11, asked-0}
 use borrow.Author.Needs.{needs}
 use Rattle.picture.proofs.asked_says.Statement.{statement}
 use Rattle.picture.proofs.asked_says.Tie as tie
@@ -72,7 +72,7 @@ returns-4 : tie.Need-returns-4
 returns-4 c =
     let f = c .before .before .before .before in
     let p = c .before .palette-says in
-    asked-10 (set (sized f)) _ _ (none (sized f)) (allowed f) (c .before .before .if3 .left) (p .result) (p .ensures) (c .if4 .taken)
+    asked-misfit (set (sized f)) _ _ (none (sized f)) (allowed f) (c .before .before .if3 .left) (p .result) (p .ensures) (c .if4 .taken)
 
 mapentry-size-requires : tie.Need-mapentry-size-requires
 mapentry-size-requires c κs = sound (c .before .before .before .before .before .before) .mode
