@@ -168,8 +168,12 @@ fn declares(line: &str) -> Option<(String, bool, bool)> {
 
 /// Reads an antt file.
 pub fn module(floor: &str, part: &str, path: &str) -> Module {
-    let text = read(path);
-    let name = path.rsplit('/').next().expect("a file's name").trim_end_matches(".antt").to_string();
+    let name = path.rsplit('/').next().expect("a file's name").trim_end_matches(".antt");
+    parsed(floor, part, name, &read(path))
+}
+
+/// Reads the text of an antt file of this name.
+fn parsed(floor: &str, part: &str, name: &str, text: &str) -> Module {
     let mut result = Module::default();
     let mut sections: Vec<(usize, String)> = Vec::new();
     let mut stated = false;
@@ -189,11 +193,12 @@ pub fn module(floor: &str, part: &str, path: &str) -> Module {
             // a field of a record, or a local of a `where`, belongs to what it stands in
             let inside = result.declarations.last().is_some_and(|d: &Declaration| d.definition && depth > 0)
                 && sections.iter().all(|(at, _)| at + 2 != depth);
-            if !inside && sections.iter().all(|(at, _)| *at < depth || depth == *at) {
+            if !inside {
+                // what stands further out than a section, or level with it, ends it
                 sections.retain(|(at, _)| *at < depth);
                 let around: Vec<&str> = sections.iter().map(|(_, header)| header.as_str()).collect();
                 result.declarations.push(Declaration {
-                    place: Place { floor: floor.into(), part: part.into(), module: name.clone(), name: declared },
+                    place: Place { floor: floor.into(), part: part.into(), module: name.into(), name: declared },
                     public,
                     definition,
                     text: format!("{}\n{}", around.join("\n"), line),
@@ -331,4 +336,33 @@ pub fn rows(text: &str, heading: &str) -> Vec<Vec<String>> {
     let cells = |line: &str| line.trim_matches('|').split('|').map(|cell| cell.trim().to_string()).collect::<Vec<_>>();
     let rows: Vec<Vec<String>> = below.filter(|line| line.starts_with('|')).map(cells).collect();
     rows.split(|row| row.iter().all(|cell| cell.starts_with("---"))).skip(1).flat_map(|part| part.to_vec()).collect()
+}
+
+#[cfg(test)]
+mod tests {
+    use super::*;
+
+    #[test]
+    fn sections_end_where_the_text_goes_further_out() {
+        let text = "\
+module _ (a : ℕ) where
+  pub first : a ≡ a
+  first = refl
+
+  module _ (b : ℕ) where
+    pub second : b ≡ a
+    second = refl
+
+abbrev third : ℕ
+third = 3
+
+pub fourth : third ≡ 3
+fourth = refl
+";
+        let declared = parsed("words", "proofs", "Order", text).declarations;
+        let told: Vec<(&str, bool)> = declared.iter().map(|d| (d.place.name.as_str(), d.definition)).collect();
+        assert_eq!(told, [("first", false), ("second", false), ("third", true), ("fourth", false)]);
+        assert!(declared[1].text.contains("(a : ℕ)") && declared[1].text.contains("(b : ℕ)"));
+        assert!(!declared[2].text.contains("(a : ℕ)"));
+    }
 }
