@@ -20,7 +20,7 @@ CDPATH='' cd "$(dirname "$0")" || exit 3
 . host/sh/common.sh
 help_if_asked convert.sh "$@"
 [ $# -le 1 ] || fail 2 "takes one sheet, or none: --help says more"
-need rt awk sha256sum head od mktemp
+need rt awk sed sha256sum head od mktemp
 find_kit
 
 # Standard input becomes the sheet. A path is meant from where the caller stands.
@@ -68,7 +68,10 @@ run_program() {
 
 # The cause in words, or in general ones.
 why() { # NUMBER
-    words=$(LC_ALL=C od -A n -t u1 -v "$work/sheet" | LC_ALL=C awk -v number="$1" -f host/sh/refused.awk 2>/dev/null)
+    words=$({
+        modes
+        LC_ALL=C od -A n -t u1 -v "$work/sheet"
+    } | LC_ALL=C awk -v number="$1" -f host/sh/refused.awk 2>/dev/null)
     printf '%s\n' "${words:-the cause was not found in the sheet; docs/REFUSALS.md has the causes of $1}"
 }
 

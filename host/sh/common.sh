@@ -43,6 +43,20 @@ find_kit() {
     [ -x "$emulator" ] || emulator=
 }
 
+# The modes by the definition that the proofs go by, a line each:
+# NAME;DEPTHS;TOP;ENTRY BYTES;TILES;PALETTES;FLIPS;PRIORITY, where tiles and palettes are how many an entry can name.
+# Pce_sprite has no entry.
+modes() {
+    LC_ALL=C sed -n 's/^.*of (\(.*\) ∷ \[\]) \([0-9 ]*[0-9]\)  -- \(.*\)$/\3;\1;\2/p' crates/mode/specs/Table.antt |
+        LC_ALL=C sed 's/ ∷ /, /g' |
+        LC_ALL=C awk -F ';' '{
+            split($3, n, " ")
+            entry = n[2] ";" 2 ^ n[3] ";" 2 ^ n[4]
+            if (n[2] == 0) entry = "none;none;none"
+            print $1 ";" $2 ";" n[1] ";" entry ";" (n[5] ? "yes" : "no") ";" (n[6] ? "yes" : "no")
+        }'
+}
+
 # ---- work that is done is not done again
 #
 # rt keeps what it proved, but writes an archive anew each time, and looks at every crate each time. A file that was

@@ -1,35 +1,22 @@
 # Says in words why the program refused a sheet. For a message alone: the number is the program's, and nothing goes by
-# what is said here. In: the sheet's bytes as decimal numbers, as `od -A n -t u1 -v` prints them, and -v number=N.
-# Out: one line; none where no cause is found.
+# what is said here. In: the modes, as `modes` of common.sh prints them, then the sheet's bytes as decimal numbers, as
+# `od -A n -t u1 -v` prints them; and -v number=N. Out: one line; none where no cause is found.
 
 BEGIN {
     count = split("mode depth flip discard limit palette columns rows", keys, " ")
     # the program reads no more than this
     most_read = 65642
-    mode("snes", "2, 4, 8", 10, 3, 1)
-    mode("snes_mode7", "8", 8, 0, 0)
-    mode("gb", "1, 2", 8, 0, 0)
-    mode("gbc", "1, 2", 9, 3, 1)
-    mode("gba", "4, 8", 10, 4, 1)
-    mode("gba_affine", "8", 8, 0, 0)
-    mode("md", "4", 11, 2, 1)
-    mode("sms", "4", 9, 1, 1)
-    mode("gg", "4", 9, 1, 1)
-    mode("pce", "4", 12, 4, 0)
-    mode("pce_sprite", "4", 0, 0, 0)
-    mode("ngp", "2", 9, 1, 1)
-    mode("ngpc", "2", 9, 4, 1)
-    mode("ws", "2", 10, 4, 1)
-    mode("wsc", "2, 4", 10, 4, 1)
-    mode("wsc_packed", "4", 10, 4, 1)
 }
 
-function mode(name, of_depths, tile_bits, palette_bits, has_flips) {
+# NAME;DEPTHS;TOP;ENTRY BYTES;TILES;PALETTES;FLIPS;PRIORITY
+/;/ {
+    split($0, mode, ";")
+    name = mode[1]
     names = names (names == "" ? "" : ", ") name
-    depths[name] = of_depths
-    tiles[name] = 2 ^ tile_bits
-    palettes[name] = 2 ^ palette_bits
-    flips[name] = has_flips
+    depths[name] = mode[2]
+    tiles[name] = mode[5] + 0
+    palettes[name] = mode[6] + 0
+    next
 }
 
 { for (i = 1; i <= NF; i++) bytes[size++] = $i + 0 }

@@ -280,43 +280,18 @@ marks() {
     ! is_it_made || differs "another file with the mark counts as made"
 }
 
-# ---- the modes, told in three places
+# ---- the modes, told in two places
 
-# NAME;DEPTHS;TOP;ENTRY BYTES;TILES;PALETTES;FLIPS;PRIORITY by the definition that the proofs go by. Pce_sprite has no
-# entry.
-defined_modes() {
-    sed -n 's/^.*of (\(.*\) ∷ \[\]) \([0-9 ]*[0-9]\)  -- \(.*\)$/\3;\1;\2/p' crates/mode/specs/Table.antt |
-        sed 's/ ∷ /, /g' |
-        awk -F ';' '{
-            split($3, n, " ")
-            entry = n[2] ";" 2 ^ n[3] ";" 2 ^ n[4]
-            if (n[2] == 0) entry = "none;none;none"
-            print $1 ";" $2 ";" n[1] ";" entry ";" (n[5] ? "yes" : "no") ";" (n[6] ? "yes" : "no")
-        }'
-}
-
-# The same by docs/REFUSALS.md.
+# As `modes` prints them, by docs/REFUSALS.md.
 documented_modes() {
     sed -n 's/^| [0-9]* *| `\(.*\)|$/\1/p' docs/REFUSALS.md |
         sed 's/` *|/;/; s/ *| */;/g; s/; */;/g; s/ *$//; s/\([0-9]\),\([0-9]\)/\1\2/g'
 }
 
-# NAME;DEPTHS;TILES;PALETTES;FLIPS by refused.awk.
 told_modes() {
-    sed -n 's/^ *mode("\(.*\)", "\(.*\)", \(.*\), \(.*\), \(.*\))$/\1;\2;\3;\4;\5/p' host/sh/refused.awk |
-        awk -F ';' '{
-            named = 2 ^ $3 ";" 2 ^ $4
-            if ($3 == 0) named = "none;none"
-            print $1 ";" $2 ";" named ";" ($5 ? "yes" : "no")
-        }'
-}
-
-modes() {
-    tried=$((tried + 3))
-    defined_modes >"$work/defined"
-    [ "$(grep -c . "$work/defined")" -eq 16 ] || differs "the modes were not found in crates/mode/specs/Table.antt"
-    [ "$(documented_modes)" = "$(cat "$work/defined")" ] || differs "docs/REFUSALS.md has other modes than crates/mode"
-    [ "$(told_modes)" = "$(cut -d ';' -f 1,2,5,6,7 "$work/defined")" ] || differs "refused.awk has other modes"
+    tried=$((tried + 2))
+    [ "$(modes | grep -c .)" -eq 16 ] || differs "the modes were not found in crates/mode/specs/Table.antt"
+    [ "$(documented_modes)" = "$(modes)" ] || differs "docs/REFUSALS.md has other modes than crates/mode"
 }
 
 # ---- an archive that the crate was not written for
@@ -364,7 +339,7 @@ masters
 missing
 helps
 marks
-modes
+told_modes
 interfaces
 readme
 [ "$wrong" -eq 0 ] || fail 1 "$wrong of $tried differ"
