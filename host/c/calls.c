@@ -164,6 +164,8 @@ enum {
     MD = RUMCHIVOAT_MODE_MD,
     PCE = RUMCHIVOAT_MODE_PCE,
     SPRITE = RUMCHIVOAT_MODE_PCE_SPRITE,
+    WS = RUMCHIVOAT_MODE_WS,
+    WSC = RUMCHIVOAT_MODE_WSC,
     WSC_PACKED = RUMCHIVOAT_MODE_WSC_PACKED,
     NO_MODE = WSC_PACKED + 1
 };
@@ -265,6 +267,7 @@ static void pack_entry(void) {
     no_bytes(call, RUMCHIVOAT_REFUSED_MODE, rumchivoat_pack_entry(NO_MODE, 0, 0, false, false, false, out, 2));
     no_bytes(call, RUMCHIVOAT_REFUSED_PCE_SPRITE, rumchivoat_pack_entry(SPRITE, 0, 0, false, false, false, out, 2));
     no_bytes(call, RUMCHIVOAT_REFUSED_ENTRY_TILE, rumchivoat_pack_entry(PCE, 4096, 15, false, false, false, out, 2));
+    no_bytes(call, RUMCHIVOAT_REFUSED_ENTRY_TILE, rumchivoat_pack_entry(WS, 512, 15, true, true, false, out, 2));
     no_bytes(call, RUMCHIVOAT_REFUSED_ENTRY_PALETTE, rumchivoat_pack_entry(PCE, 4095, 16, true, false, true, out, 1));
     no_bytes(call, RUMCHIVOAT_REFUSED_ENTRY_FLIP, rumchivoat_pack_entry(PCE, 4095, 15, true, false, true, out, 1));
     no_bytes(call, RUMCHIVOAT_REFUSED_ENTRY_PRIORITY, rumchivoat_pack_entry(PCE, 4095, 15, false, false, true, out, 1));
@@ -274,10 +277,16 @@ static void pack_entry(void) {
 static void unpack_entry(void) {
     static const char call[] = "rumchivoat_unpack_entry";
     static const uint8_t bytes[2] = {0x01, 0x76};
+    static const uint8_t ones[2] = {0xff, 0xff};
     begin();
     rumchivoat_entry e = rumchivoat_unpack_entry(SNES, bytes, 2);
     bool fields = e.tile == 513 && e.palette == 5 && e.flip_h && !e.flip_v && e.priority;
     tell(call, 0, e.refusal == RUMCHIVOAT_DONE && fields);
+    /* of ws one bit is unused, which in wsc is a tile bit */
+    e = rumchivoat_unpack_entry(WS, ones, 2);
+    tell(call, 0, e.refusal == RUMCHIVOAT_DONE && e.tile == 511 && e.palette == 15);
+    e = rumchivoat_unpack_entry(WSC, ones, 2);
+    tell(call, 0, e.refusal == RUMCHIVOAT_DONE && e.tile == 1023 && e.palette == 15);
     no_entry(call, RUMCHIVOAT_REFUSED_MODE, rumchivoat_unpack_entry(NO_MODE, bytes, 2));
     no_entry(call, RUMCHIVOAT_REFUSED_PCE_SPRITE, rumchivoat_unpack_entry(SPRITE, bytes, 2));
     no_entry(call, RUMCHIVOAT_REFUSED_LENGTH, rumchivoat_unpack_entry(SNES, bytes, 1));

@@ -22,7 +22,7 @@
 #include <stdint.h>
 
 /* The number of the interface that this header is about. Compare it with rumchivoat_interface() of the archive. */
-#define RUMCHIVOAT_INTERFACE 2
+#define RUMCHIVOAT_INTERFACE 3
 
 /* ---- the sixteen modes */
 

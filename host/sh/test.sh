@@ -108,6 +108,8 @@ refused_for_the_picture() {
     refused 12 "$room, 1: line 5 of the sheet is \"limit=1\"; with discard=0 every tile is stored"
     sheet gb 1 0 0 0 0 32 32 65536
     refused 12 "$room, 256: gb can name no more of them; with discard=0 every tile is stored"
+    sheet ws 2 0 0 0 15 32 32 65536
+    refused 12 "$room, 512: ws can name no more of them; with discard=0 every tile is stored"
 }
 
 refused_for_a_line() {

@@ -1,4 +1,4 @@
-//! The sixteen modes, and document 01's table of them.
+//! The sixteen modes, and document 01's table of them, in which ws has document 02's nine tile bits.
 
 use std::error::Error;
 use std::fmt;
@@ -109,7 +109,7 @@ static ROWS: [Row; 16] = [
     row("pce_sprite", &[4],        7,  None,                                     Each(2)),
     row("ngp",        &[2],        7,  entry(2,      9,  1,      YES,  NO),      Grays),
     row("ngpc",       &[2],       15,  entry(2,      9,  4,      YES,  NO),      Each(2)),
-    row("ws",         &[2],        7,  entry(2,     10,  4,      YES,  NO),      Four(2)),
+    row("ws",         &[2],        7,  entry(2,      9,  4,      YES,  NO),      Four(2)),
     row("wsc",        &[2, 4],    15,  entry(2,     10,  4,      YES,  NO),      Each(2)),
     row("wsc_packed", &[4],       15,  entry(2,     10,  4,      YES,  NO),      Each(2)),
 ];
@@ -198,8 +198,10 @@ impl Mode {
     /// The bits of an entry's tile index; `None` for pce_sprite.
     ///
     /// ```
-    /// // a map of pce names 4,096 tiles
-    /// assert_eq!(rumchivoat::Mode::Pce.tile_bits(), Some(12));
+    /// use rumchivoat::Mode;
+    ///
+    /// // a map of pce names 4,096 tiles, one of the mono machine 512, one of its colour model 1,024
+    /// assert_eq!((Mode::Pce.tile_bits(), Mode::Ws.tile_bits(), Mode::Wsc.tile_bits()), (Some(12), Some(9), Some(10)));
     /// ```
     pub const fn tile_bits(self) -> Option<u32> {
         match self.entry_bits() {

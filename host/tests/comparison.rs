@@ -14,6 +14,7 @@ mod tiles;
 use common::{assert_writes, say, told, writes};
 use reading::{MODES, Random, Row, Shape};
 use rumchivoat::{Entry, Mode, Refusal, Rounding};
+use superfamiconv::bank::{WS_BANK, without_bank};
 use superfamiconv::plain;
 use tiles::tile_text;
 
@@ -121,8 +122,11 @@ fn port_entry(entry: plain::Entry) -> Entry {
     Entry { tile, palette, flip_h, flip_v, priority }
 }
 
+/// Read alike, but where ws has the bit that the Rust alone reads: there its tile index is 512 more.
 fn same_read(mode: u32, rust: plain::Mode, bytes: &[u8]) -> u64 {
-    let entry = port_entry(plain::unpack_mapentry(rust, bytes));
+    let theirs = port_entry(plain::unpack_mapentry(rust, bytes));
+    let bank = if without_bank(mode, bytes) == bytes { 0 } else { 512 };
+    let entry = Entry { tile: theirs.tile - bank, ..theirs };
     assert_eq!(rumchivoat::unpack_entry(mode, bytes), Ok(entry), "unpack_entry mode {mode} {bytes:?}");
     1
 }
@@ -171,14 +175,18 @@ fn misfit(entry: Entry, held: Entry) -> Refusal {
 }
 
 /// An entry that its mode holds is answered alike; of any other, the port answers 15 to 18 and the Rust packs what the
-/// mode holds of it. The Rust's tile index is not cut to the tile bits.
+/// mode holds of it, in ws a tile bit more. The Rust's tile index is not cut to the tile bits.
 fn compared_entry_calls(mode: u32, row: &Row, rust: plain::Mode, entry: Entry, random: &mut Random) -> u64 {
     let held = held(row, entry);
     if held == entry {
         return same_entry_calls(mode, rust, entry, random);
     }
     let theirs = rust_entry(entry);
-    assert_eq!(plain::pack_mapentry(rust, theirs), plain::pack_mapentry(rust, rust_entry(held)), "{mode} {entry:?}");
+    let mut packed = plain::pack_mapentry(rust, rust_entry(held));
+    if row.name == "ws" && entry.tile & 512 != 0 {
+        packed[1] |= WS_BANK;
+    }
+    assert_eq!(plain::pack_mapentry(rust, theirs), packed, "{mode} {entry:?}");
     assert_eq!(plain::get_attribute(rust, theirs), plain::get_attribute(rust, rust_entry(held)), "{mode} {entry:?}");
     let uncut = entry.tile.to_le_bytes();
     assert!(uncut.starts_with(&plain::get_tile_index(rust, theirs)), "{mode} {entry:?}");
@@ -334,14 +342,17 @@ fn grays_and_their_luma() -> u64 {
     count
 }
 
-/// Every word of an entry is read alike, and what is read is packed alike.
+/// Every word of an entry is read alike, but for a bit of ws, and what the Rust reads is packed alike, or refused where
+/// that bit is in it.
 fn every_entry_word() -> u64 {
     let (mut count, mut random) = (0, Random::new(15));
     for (mode, row, rust) in rows().filter(|(_, row, _)| row.entry_bytes > 0) {
         for word in 0..1u32 << (8 * row.entry_bytes) {
             let bytes = &word.to_le_bytes()[..row.entry_bytes];
             count += same_read(mode, rust, bytes);
-            count += same_entry_calls(mode, rust, port_entry(plain::unpack_mapentry(rust, bytes)), &mut random);
+            let entry = port_entry(plain::unpack_mapentry(rust, bytes));
+            assert_eq!(held(row, entry) == entry, without_bank(mode, bytes) == bytes, "{mode} {bytes:?}");
+            count += compared_entry_calls(mode, row, rust, entry, &mut random);
         }
     }
     count
@@ -468,11 +479,12 @@ const GB_GREEN_4: [u8; 16] = [3, 4, 0, 0, 3, 0, 0, 0, 3, 0, 0, 0, 3, 0, 0, 0];
 const WS_RED_8: [u8; 16] = [8, 0, 0, 0, 7, 0, 0, 0, 7, 0, 0, 0, 7, 0, 0, 0];
 const WS_RED_16: [u8; 16] = [16, 0, 0, 0, 7, 0, 0, 0, 7, 0, 0, 0, 7, 0, 0, 0];
 
-/// Where document 01 answers 0 and the Rust panics: the port's answer.
+/// Where document 01 answers 0 and the Rust panics, or reads another entry: the port's answer.
 const DIFFERENCES_INSIDE: &[(Mode, Call, &str, &str)] = &[
     (Mode::Gb, UnpackTile(1, 8, 8, &[0; 8]), "panic", "64 x 00"),
     (Mode::Gb, UnpackTile(1, 8, 8, &[0x80, 0, 0, 0, 0, 0, 0, 0]), "panic", "01, 63 x 00"),
     (Mode::Gbc, UnpackTile(1, 8, 8, &[0; 8]), "panic", "64 x 00"),
+    (Mode::Ws, UnpackEntry(&[0, WS_BANK]), "512 0 ---", "0 0 ---"),
 ];
 
 /// Each kind of difference at its smallest input: what the Rust answers, and the port's refusal.
@@ -591,6 +603,9 @@ const DIFFERENCES: &[(Mode, Call, &str, Refusal)] = &[
     (Mode::Snes,      PackEntry(tile(1024)),      "00 00",    Refusal::EntryTile),
     (Mode::Snes,      PackEntry(palette(8)),      "00 00",    Refusal::EntryPalette),
     (Mode::SnesMode7, PackEntry(tile(256)),       "00",       Refusal::EntryTile),
+    // the Rust has ten tile bits in ws
+    (Mode::Ws,        PackEntry(tile(512)),       "00 20",    Refusal::EntryTile),
+    (Mode::Ws,        PackEntry(tile(1023)),      "ff 21",    Refusal::EntryTile),
     // the Rust passes over what the mode has not
     (Mode::SnesMode7, PackEntry(palette(1)),      "00",       Refusal::EntryPalette),
     (Mode::SnesMode7, PackEntry(FLIPPED),         "00",       Refusal::EntryFlip),
@@ -602,9 +617,11 @@ const DIFFERENCES: &[(Mode, Call, &str, Refusal)] = &[
     (Mode::Snes,      TileIndex(palette(8)),      "00 00",    Refusal::EntryPalette),
     (Mode::Snes,      TileIndex(tile(65_536)),    "00 00",    Refusal::EntryTile),
     (Mode::SnesMode7, TileIndex(tile(256)),       "00",       Refusal::EntryTile),
+    (Mode::Ws,        TileIndex(tile(512)),       "00 02",    Refusal::EntryTile),
     (Mode::Snes,      Attribute(tile(1024)),      "0",        Refusal::EntryTile),
     (Mode::Snes,      Attribute(palette(8)),      "0",        Refusal::EntryPalette),
     (Mode::SnesMode7, Attribute(FLIPPED),         "0",        Refusal::EntryFlip),
+    (Mode::Ws,        Attribute(tile(512)),       "0",        Refusal::EntryTile),
     // the Rust reads a missing byte as 0 and passes over further ones
     (Mode::Snes,      UnpackEntry(&[]),           "0 0 ---",  Refusal::Length),
     (Mode::Snes,      UnpackEntry(&[1]),          "1 0 ---",  Refusal::Length),

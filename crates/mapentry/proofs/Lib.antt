@@ -3,3 +3,4 @@ pub mod Links
 pub mod Trips
 pub mod Lowest
 pub mod Stood
+pub mod Bank

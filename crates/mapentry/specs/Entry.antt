@@ -32,7 +32,8 @@ abbrev priority : Field
 priority = field 4 1
 
 -- "First byte is the tile index's low 8 bits (md: second byte). The other byte, from bit 0": so the whole word, from bit 0, begins with 8 bits
--- of the tile index, and the fields of document 01 follow. Ws, wsc and wsc_packed are "tile bit 8, palette 4, tile bit 9, h, v".
+-- of the tile index, and the fields of document 01 follow. Wsc and wsc_packed are "tile bit 8, palette 4, tile bit 9, h, v"; in ws "the bit at
+-- place 5 of the second byte is not a tile bit" but unused.
 abbrev pub layouts : List (List Field)
 layouts =
     (tile 8 ∷ tile 2 ∷ palette 3 ∷ priority ∷ h ∷ v ∷ [])  -- snes
@@ -48,7 +49,7 @@ layouts =
     ∷ []  -- pce_sprite
     ∷ (tile 8 ∷ tile 1 ∷ unused 4 ∷ palette 1 ∷ v ∷ h ∷ [])  -- ngp
     ∷ (tile 8 ∷ tile 1 ∷ palette 4 ∷ unused 1 ∷ v ∷ h ∷ [])  -- ngpc
-    ∷ (tile 8 ∷ tile 1 ∷ palette 4 ∷ tile 1 ∷ h ∷ v ∷ [])  -- ws
+    ∷ (tile 8 ∷ tile 1 ∷ palette 4 ∷ unused 1 ∷ h ∷ v ∷ [])  -- ws
     ∷ (tile 8 ∷ tile 1 ∷ palette 4 ∷ tile 1 ∷ h ∷ v ∷ [])  -- wsc
     ∷ (tile 8 ∷ tile 1 ∷ palette 4 ∷ tile 1 ∷ h ∷ v ∷ [])  -- wsc_packed
     ∷ []

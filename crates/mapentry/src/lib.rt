@@ -113,7 +113,7 @@ pub fn places_of(m: Mode) -> Places
         console::PCE_SPRITE => placed(0, 16, 16, 0, 16, 16, 16),
         console::NGP => placed(9, 16, 13, 1, 15, 14, 16),
         console::NGPC => placed(9, 16, 9, 4, 15, 14, 16),
-        console::WS => placed(9, 13, 9, 4, 14, 15, 16),
+        console::WS => placed(9, 16, 9, 4, 14, 15, 16),
         console::WSC => placed(9, 13, 9, 4, 14, 15, 16),
         _ => placed(9, 13, 9, 4, 14, 15, 16),
     }

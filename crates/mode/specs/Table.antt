@@ -21,7 +21,7 @@ abbrev pub of : List ℕ → ℕ → ℕ → ℕ → ℕ → ℕ → ℕ → Row
 of depths top entry tile palette flips priority =
     record { depths = depths; top = top; entry = entry; tile = tile; palette = palette; flips = flips; priority = priority }
 
--- depths, top, entry bytes, tile bits, palette bits, flips, priority
+-- depths, top, entry bytes, tile bits, palette bits, flips, priority. Ws has document 02's "nine tile bits".
 abbrev pub rows : List Row
 rows =
     of (2 ∷ 4 ∷ 8 ∷ []) 31 2 10 3 1 1  -- snes
@@ -37,7 +37,7 @@ rows =
     ∷ of (4 ∷ []) 7 0 0 0 0 0  -- pce_sprite
     ∷ of (2 ∷ []) 7 2 9 1 1 0  -- ngp
     ∷ of (2 ∷ []) 15 2 9 4 1 0  -- ngpc
-    ∷ of (2 ∷ []) 7 2 10 4 1 0  -- ws
+    ∷ of (2 ∷ []) 7 2 9 4 1 0  -- ws
     ∷ of (2 ∷ 4 ∷ []) 15 2 10 4 1 0  -- wsc
     ∷ of (4 ∷ []) 15 2 10 4 1 0  -- wsc_packed
     ∷ []

@@ -132,3 +132,23 @@ module _ (fs : List Field) (n : ℕ) (most : Bool) (t : T (areFields fs)) (full 
   bytes-back bs b size =
       let small : wordOf most bs < 2 ^ bitsOf fs = rw (full, ← size) (word-lt most bs b) in
       rw (join-split fs (wordOf most bs) t small, ← size) (bytes-word most bs b)
+
+-- A word with its unused bits 0: it holds the same values, and nothing in those bits.
+abbrev pub cleared : List Field → ℕ → ℕ
+cleared fs w = join fs (set (split fs w) 5 0)
+
+module _ (fs : List Field) (w : ℕ) (t : T (areFields fs)) where
+  cleared-case : (k : ℕ) → k < 6 → (b : Bool) → eqb k 5 ≡ b → getD (set (split fs w) 5 0) k 0 < 2 ^ bitsFor k fs
+  unfolding Held
+  cleared-case k lt true e =
+      let inside : 5 < length (split fs w) = omega (arith, length-split fs w) in
+      rw (eqb-true k 5 e, getD-set-same (split fs w) 5 0 0 inside) (pow-pos (bitsFor 5 fs))
+  cleared-case k lt false e = rw (getD-set-other (split fs w) 5 k 0 0 (eqb-false k 5 e)) (split-held fs w t k lt)
+
+  cleared-held : Held fs (set (split fs w) 5 0)
+  unfolding Held
+  cleared-held k lt = cleared-case k lt (eqb k 5) refl
+
+  pub split-cleared : split fs (cleared fs w) ≡ set (split fs w) 5 0
+  split-cleared =
+      split-join fs (set (split fs w) 5 0) (length-set (split fs w) 5 0 ∙ length-split fs w) t cleared-held

@@ -209,9 +209,10 @@ fn entry_bytes(sides: &Sides, random: &mut Random) -> Option<Vec<u8>> {
 fn pack_entries(sides: &Sides, random: &mut Random) -> Option<Measured> {
     let bytes = entry_bytes(sides, random)?;
     let size = sides.row.entry_bytes;
-    let theirs: Vec<plain::Entry> = bytes.chunks_exact(size).map(|b| plain::unpack_mapentry(sides.rust, b)).collect();
-    let read = |bytes| rumchivoat::unpack_entry(sides.number, bytes).expect("two bytes are an entry");
+    let read = |bytes| rumchivoat::unpack_entry(sides.number, bytes).expect("the bytes are an entry's");
     let ours: Vec<rumchivoat::Entry> = bytes.chunks_exact(size).map(read).collect();
+    let theirs: Vec<plain::Entry> =
+        ours.iter().map(|e| plain::entry(e.tile, e.palette, e.flip_h, e.flip_v, e.priority)).collect();
     let mut out = vec![0; bytes.len()];
     let mut data = Vec::with_capacity(bytes.len());
     Some(measured(

@@ -42,20 +42,22 @@ const V: Bit = Bit::V;
 const PR: Bit = Bit::Priority;
 const NO: Bit = Bit::Unused;
 
-/// "The other byte, from bit 0"; `None` where an entry is one byte.
+/// "The other byte, from bit 0"; in ws "the bit at place 5 of the second byte is not a tile bit". `None` where an entry
+/// is one byte.
 #[rustfmt::skip]
 fn other_byte(name: &str) -> Option<[Bit; 8]> {
     match name {
-        "snes"                      => Some([T8, T9, P0, P1,  P2,  PR, H,  V]),
-        "sms" | "gg"                => Some([T8,  H,  V, P0,  PR,  NO, NO, NO]),
-        "gbc"                       => Some([P0, P1, P2, T8,  NO,  H,  V,  PR]),
-        "gba"                       => Some([T8, T9,  H,  V,  P0,  P1, P2, P3]),
-        "md"                        => Some([T8, T9, T10, H,  V,   P0, P1, PR]),
-        "pce"                       => Some([T8, T9, T10, T11, P0, P1, P2, P3]),
-        "ws" | "wsc" | "wsc_packed" => Some([T8, P0, P1, P2,  P3,  T9, H,  V]),
-        "ngp"                       => Some([T8, NO, NO, NO,  NO,  P0, V,  H]),
-        "ngpc"                      => Some([T8, P0, P1, P2,  P3,  NO, V,  H]),
-        _                           => None,
+        "snes"               => Some([T8, T9, P0, P1,  P2,  PR, H,  V]),
+        "sms" | "gg"         => Some([T8,  H,  V, P0,  PR,  NO, NO, NO]),
+        "gbc"                => Some([P0, P1, P2, T8,  NO,  H,  V,  PR]),
+        "gba"                => Some([T8, T9,  H,  V,  P0,  P1, P2, P3]),
+        "md"                 => Some([T8, T9, T10, H,  V,   P0, P1, PR]),
+        "pce"                => Some([T8, T9, T10, T11, P0, P1, P2, P3]),
+        "ws"                 => Some([T8, P0, P1, P2,  P3,  NO, H,  V]),
+        "wsc" | "wsc_packed" => Some([T8, P0, P1, P2,  P3,  T9, H,  V]),
+        "ngp"                => Some([T8, NO, NO, NO,  NO,  P0, V,  H]),
+        "ngpc"               => Some([T8, P0, P1, P2,  P3,  NO, V,  H]),
+        _                    => None,
     }
 }
 

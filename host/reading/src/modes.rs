@@ -2,7 +2,7 @@
 
 use crate::Answer;
 
-/// A row of document 01's table. Where pce_sprite has "none", the row has 0.
+/// A row of document 01's table, with document 02's "nine tile bits" for ws. Where pce_sprite has "none", the row has 0.
 #[derive(Debug, Clone, Copy)]
 pub struct Row {
     /// The mode's name.
@@ -43,7 +43,7 @@ pub const MODES: [Row; 16] = [
     mode("pce_sprite", &[4],        7,     0,    0,       0,    NO,       NO),
     mode("ngp",        &[2],        7,     2,    9,       1,   YES,       NO),
     mode("ngpc",       &[2],       15,     2,    9,       4,   YES,       NO),
-    mode("ws",         &[2],        7,     2,   10,       4,   YES,       NO),
+    mode("ws",         &[2],        7,     2,    9,       4,   YES,       NO),
     mode("wsc",        &[2, 4],    15,     2,   10,       4,   YES,       NO),
     mode("wsc_packed", &[4],       15,     2,   10,       4,   YES,       NO),
 ];

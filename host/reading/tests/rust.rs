@@ -1,6 +1,7 @@
 //! The reading against the unchanged Rust, where document 01 answers 0: the reading is known good without the port.
 
 use reading::{Entry, MODES, Random, Row, Set, Shape, native_shapes, set_shapes};
+use superfamiconv::bank::without_bank;
 use superfamiconv::plain;
 
 fn rows() -> impl Iterator<Item = (u32, &'static Row, plain::Mode)> {
@@ -41,10 +42,11 @@ fn same_tile(shape: Shape, pixels: &[u8]) {
     }
 }
 
+/// Read and packed alike, in ws as the Rust reads the bytes without the bit that it alone reads.
 fn same_entry(mode: u32, rust: plain::Mode, bytes: &[u8]) {
     let entry = reading::unpack_entry(mode, bytes).unwrap();
     let Entry { tile, palette, flip_h, flip_v, priority } = entry;
-    let theirs = plain::unpack_mapentry(rust, bytes);
+    let theirs = plain::unpack_mapentry(rust, &without_bank(mode, bytes));
     assert_eq!(plain::fields(theirs), (tile, palette, flip_h, flip_v, priority), "mode {mode} {bytes:?}");
     assert_eq!(written(|out| reading::pack_entry(mode, entry, out)), Ok(plain::pack_mapentry(rust, theirs)));
     assert_eq!(written(|out| reading::tile_index(mode, entry, out)), Ok(plain::get_tile_index(rust, theirs)));

@@ -15,6 +15,7 @@ use std::process::ExitCode;
 
 use list::List;
 use reading::{MODES, Random, Row, Shape, native_shapes};
+use superfamiconv::bank::without_bank;
 use superfamiconv::plain;
 
 const HEAD: &str = "\
@@ -26,7 +27,7 @@ const HEAD: &str = "\
 # reduce MODE VALUE NEAREST RESULT             reduce_channel
 # scale MODE COMPONENT RESULT                  scale_up
 # entry MODE TILE PALETTE H V PRIORITY BYTES   pack_mapentry
-# read MODE BYTES TILE PALETTE H V PRIORITY    unpack_mapentry
+# read MODE BYTES TILE PALETTE H V PRIORITY    unpack_mapentry; in ws without the bit that only the Rust reads
 # index MODE TILE PALETTE H V PRIORITY BYTES   get_tile_index
 # attribute MODE TILE PALETTE H V PRIORITY VALUE   get_attribute
 # tile MODE DEPTH WIDTH HEIGHT PIXELS BYTES    pack_tile; a pixel is a byte
@@ -229,8 +230,11 @@ fn add_reads(list: &mut List, case: &Case, random: &mut Random) {
         return;
     }
     let bits = (0..8 * size).map(|bit| (1u32 << bit).to_le_bytes()[..size].to_vec());
+    // where the two differ there is nothing to replay
+    let bits = bits.filter(|bytes| without_bank(case.mode, bytes) == *bytes);
     let words = bits.chain([vec![0; size], vec![255; size]]).collect::<Vec<_>>();
     for bytes in words.into_iter().chain((0..14).map(|_| random.bytes(size))) {
+        let bytes = without_bank(case.mode, &bytes);
         list.line(&format!("read {} {} {}", case.mode, hex(&bytes), fields(plain::unpack_mapentry(case.rust, &bytes))));
     }
 }

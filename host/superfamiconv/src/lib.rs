@@ -3,6 +3,8 @@
 //! The build script puts the Rust's files into one tree with stand-ins for the modules that its text lacks. Where the
 //! Rust's text is absent the crate still compiles, [`PRESENT`] is false and every call panics.
 
+pub mod bank;
+
 use std::io::{self, Write};
 
 #[cfg(present)]

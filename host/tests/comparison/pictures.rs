@@ -2,6 +2,7 @@
 
 use reading::{Picture, Random, Settings, Shape};
 use rumchivoat::Mode;
+use superfamiconv::bank::{WS_BANK, without_bank};
 use superfamiconv::{pictures, plain};
 
 use super::common::pictures::{
@@ -82,7 +83,8 @@ fn rust_set(settings: Settings, bytes: &[u8]) -> Result<plain::Tileset, String> 
     Ok(set)
 }
 
-/// Redrawn alike; the Rust's `Err` is document 01's 7.
+/// Redrawn alike, in ws as the Rust draws the map without the bit that it alone reads; the Rust's `Err` is document 01's
+/// 7.
 fn same_redrawn(
     settings: Settings,
     set: &Result<plain::Tileset, String>,
@@ -90,7 +92,9 @@ fn same_redrawn(
     map: &[u8],
     random: &mut Random,
 ) -> u64 {
-    let theirs = set.as_ref().map_err(Clone::clone).and_then(|set| pictures::redraw(set, rust_settings(settings), map));
+    let rust_map = without_bank(settings.mode, map);
+    let theirs =
+        set.as_ref().map_err(Clone::clone).and_then(|set| pictures::redraw(set, rust_settings(settings), &rust_map));
     let case = || format!("redraw {settings:?}, {} and {} bytes", tiles.len(), map.len());
     let call = |out: &mut [u8]| redraw(settings, tiles, map, out);
     match theirs {
@@ -295,30 +299,32 @@ fn settings(mode: Mode, depth: u32, columns: u32, rows: u32) -> Settings {
     Settings { mode: mode.number(), depth, flip: false, discard: true, limit: 0, palette: 0, columns, rows }
 }
 
-/// Inside the domain: `max_tile_count` stops ws at 512 tiles and pce at 2,048, where their entries hold 1,024 and 4,096.
-/// The smallest pictures beyond have 27 x 19 and 50 x 41 tiles: of each tile from there on the Rust leaves the entry
-/// blank, the port names it. In the other modes it is what the entries hold.
+/// Inside the domain: `max_tile_count` stops pce at 2,048 tiles, where its entries hold 4,096. The smallest picture beyond
+/// has 50 x 41 tiles: of each tile from there on the Rust leaves the entry blank, the port names it. In the other modes
+/// it is what the entries hold.
 pub fn stopped_by_max_tile_count() -> u64 {
     let (mut count, mut random) = (0, Random::new(81));
     for mode in picture_modes() {
         let max = pictures::max_tile_count(plain::mode(mode.mode)) as usize;
-        let stopped = ["ws", "pce"].contains(&row_of(mode).name);
-        assert_eq!(max < most_tiles(mode), stopped, "{mode:?}");
+        if row_of(mode).name == "pce" {
+            assert!(max < most_tiles(mode), "{mode:?}");
+        } else {
+            assert_eq!(max, most_tiles(mode), "{mode:?}");
+        }
         count += 1;
     }
-    for settings in [settings(Mode::Ws, 2, 27, 19), settings(Mode::Pce, 4, 50, 41)] {
-        let max = pictures::max_tile_count(plain::mode(settings.mode));
-        for need in max as usize..=places(settings) {
-            let pixels = picture_needing(settings, need);
-            let theirs = pictures::convert(rust_settings(settings), max, &pixels);
-            assert_eq!(theirs.blank, need as u32 - max, "{settings:?}");
-            let all = rust_converts(settings, &pixels);
-            let size = row_of(settings).entry_bytes;
-            let differing = theirs.map.chunks(size).zip(all.map.chunks(size)).filter(|(theirs, ours)| theirs != ours);
-            assert_eq!(differing.count(), need - max as usize, "{settings:?}");
-            // with a map that takes what the entries hold, the Rust agrees with the port
-            count += same_converted(settings, &pixels, &mut random);
-        }
+    let settings = settings(Mode::Pce, 4, 50, 41);
+    let max = pictures::max_tile_count(plain::mode(settings.mode));
+    for need in max as usize..=places(settings) {
+        let pixels = picture_needing(settings, need);
+        let theirs = pictures::convert(rust_settings(settings), max, &pixels);
+        assert_eq!(theirs.blank, need as u32 - max, "{settings:?}");
+        let all = rust_converts(settings, &pixels);
+        let size = row_of(settings).entry_bytes;
+        let differing = theirs.map.chunks(size).zip(all.map.chunks(size)).filter(|(theirs, ours)| theirs != ours);
+        assert_eq!(differing.count(), need - max as usize, "{settings:?}");
+        // with a map that takes what the entries hold, the Rust agrees with the port
+        count += same_converted(settings, &pixels, &mut random);
     }
     count
 }
@@ -391,17 +397,20 @@ fn differences_of_conversion(random: &mut Random) -> u64 {
     count
 }
 
-/// 257 different tiles in gb, in the smallest picture that holds them: the Rust stores them all and leaves the last one's
-/// entry blank. And 258 times one tile with discarding off: it stores all and names the first.
+/// One different tile more than the entries hold, 257 in gb and 513 in ws, in the smallest picture that holds them: the
+/// Rust stores them all and leaves the last one's entry blank. And 258 times one tile with discarding off: it stores all
+/// and names the first.
 fn more_tiles_than_entries_hold(random: &mut Random) -> u64 {
-    let different = settings(Mode::Gb, 1, 43, 6);
-    let pixels = picture_needing(different, 257);
-    let rust = rust_makes(different, &pixels).expect("the Rust converts it");
-    assert_eq!((rust.stored, rust.map.len(), rust.blank), (257, 258, 1));
-    let same = Settings { discard: false, ..different };
+    let mut count = 0;
+    for (different, need) in [(settings(Mode::Gb, 1, 43, 6), 257), (settings(Mode::Ws, 2, 27, 19), 513)] {
+        let pixels = picture_needing(different, need);
+        let rust = rust_makes(different, &pixels).expect("the Rust converts it");
+        assert_eq!((rust.stored as usize, rust.map.len(), rust.blank), (need, map_bytes(different), 1));
+        count += 1 + converts_to(different, &pixels, (65_536, 8192), Err(12), random);
+    }
+    let same = Settings { discard: false, ..settings(Mode::Gb, 1, 43, 6) };
     assert_eq!(rust_makes(same, &[0; 64 * 258]), Some(made(258, &[0; 8 * 258], &[0; 258])));
-    2 + converts_to(different, &pixels, (8192, 8192), Err(12), random)
-        + converts_to(same, &[0; 64 * 258], (8192, 8192), Err(12), random)
+    count + 1 + converts_to(same, &[0; 64 * 258], (8192, 8192), Err(12), random)
 }
 
 fn rust_redraws(settings: Settings, tiles: &[u8], map: &[u8]) -> Said {
@@ -409,6 +418,20 @@ fn rust_redraws(settings: Settings, tiles: &[u8], map: &[u8]) -> Said {
         let set = plain::from_native_data(plain::mode(settings.mode), settings.depth, 8, 8, true, tiles)?;
         pictures::redraw(&set, rust_settings(settings), map)
     })
+}
+
+/// Inside the domain: an entry of ws that has the bit at place 5 of its second byte names, to the Rust, the tile 512
+/// further on, which is not there, or is another; the port draws the tile without it.
+fn redrawn_without_bank(random: &mut Random) -> u64 {
+    let (settings, map) = (settings(Mode::Ws, 2, 1, 1), [0, WS_BANK]);
+    let tiles = [[0; 16 * 512].as_slice(), &[0xff; 16]].concat();
+    assert_eq!(rust_redraws(settings, &tiles[..16], &map), Said::Err);
+    assert_eq!(rust_redraws(settings, &tiles, &map), Bytes(vec![3; 64]));
+    let draws = |tiles: &[u8]| {
+        let call = |out: &mut [u8]| redraw(settings, tiles, &map, out);
+        1 + writes(|| format!("redraw {settings:?}"), &[0; 64], random, call)
+    };
+    [&tiles[..16], &tiles[..]].map(draws).iter().sum()
 }
 
 fn differences_of_redrawing(random: &mut Random) -> u64 {
@@ -421,6 +444,7 @@ fn differences_of_redrawing(random: &mut Random) -> u64 {
         let call = |out: &mut [u8]| redraw(settings, &[0; 8], &map, out);
         count += writes(|| format!("redraw {settings:?}"), &[0; 64], random, call);
     }
+    count += redrawn_without_bank(random);
     let mut differ = |settings: Settings, tiles: &[u8], map: &[u8], rust: Said, refusal: u32| {
         assert_eq!(rust_redraws(settings, tiles, map), rust, "{settings:?}");
         let call = |out: &mut [u8]| redraw(settings, tiles, map, out);

@@ -401,6 +401,47 @@ fn every_entry_redrawn() {
     print_count("every entry redrawn", count);
 }
 
+/// A map with the bit at place 5 of the second byte in each entry, or in each so many.
+fn with_bank(map: &[u8], each: usize) -> Vec<u8> {
+    let mut map = map.to_vec();
+    map.iter_mut().skip(1).step_by(2 * each).for_each(|byte| *byte |= 1 << 5);
+    map
+}
+
+/// In ws that bit "is not a tile bit": a map that has it, in all entries or some, draws the picture that it was made from.
+/// In wsc it is: the same bytes name tiles that are not there, 512 further on, and draw them where they are.
+#[test]
+fn the_unused_bit_of_ws_is_not_drawn() {
+    let ws = Settings {
+        mode: Mode::Ws.number(),
+        depth: 2,
+        flip: false,
+        discard: true,
+        limit: 0,
+        palette: 11,
+        columns: 32,
+        rows: 17,
+    };
+    let wsc = Settings { mode: Mode::Wsc.number(), ..ws };
+    let different = different_tiles(2, 512);
+    let pixels = picture_of(ws, &[&different[..], &different[..32]].concat());
+    let (mut tiles, mut map) = (vec![0; 512 * tile_size(ws)], vec![0; map_bytes(ws)]);
+    let due = Picture { tiles: 512, discarded: 32, tile_bytes: tiles.len(), map_bytes: map.len() };
+    assert_eq!(convert(ws, &pixels, &mut tiles, &mut map), Ok(due));
+    assert!(map.iter().skip(1).step_by(2).all(|byte| byte & 1 << 5 == 0), "0 when packing");
+
+    let mut out = vec![0; pixels.len()];
+    for each in [1, 2, 3, places(ws)] {
+        let map = with_bank(&map, each);
+        assert_eq!(redraw(ws, &tiles, &map, &mut out), Ok(pixels.len()));
+        assert!(out == pixels, "ignored when unpacking, in each {each}");
+        assert_eq!(redraw(wsc, &tiles, &map, &mut out), Err(7));
+    }
+    let further = [vec![0; tiles.len()], tiles].concat();
+    assert_eq!(redraw(wsc, &further, &with_bank(&map, 1), &mut out), Ok(pixels.len()));
+    assert!(out == pixels, "wsc draws the tiles 512 further on");
+}
+
 /// "Tile bytes that end before a tile the map names", named at any place of the map, under any flip and palette.
 #[test]
 fn tiles_that_end_before_one_that_is_named() {
