@@ -430,16 +430,16 @@ fn the_unused_bit_of_ws_is_not_drawn() {
     assert_eq!(convert(ws, &pixels, &mut tiles, &mut map), Ok(due));
     assert!(map.iter().skip(1).step_by(2).all(|byte| byte & 1 << 5 == 0), "0 when packing");
 
-    let mut out = vec![0; pixels.len()];
+    let noise = vec![0xa5; pixels.len()];
+    let drawn = |settings, tiles: &[u8], map: &[u8]| on_noise(&noise, |out| redraw(settings, tiles, map, out));
+    let whole = (Ok(pixels.len()), pixels);
     for each in [1, 2, 3, places(ws)] {
         let map = with_bank(&map, each);
-        assert_eq!(redraw(ws, &tiles, &map, &mut out), Ok(pixels.len()));
-        assert!(out == pixels, "ignored when unpacking, in each {each}");
-        assert_eq!(redraw(wsc, &tiles, &map, &mut out), Err(7));
+        assert!(drawn(ws, &tiles, &map) == whole, "ignored when unpacking, in each {each}");
+        assert_eq!(drawn(wsc, &tiles, &map).0, Err(7));
     }
     let further = [vec![0; tiles.len()], tiles].concat();
-    assert_eq!(redraw(wsc, &further, &with_bank(&map, 1), &mut out), Ok(pixels.len()));
-    assert!(out == pixels, "wsc draws the tiles 512 further on");
+    assert!(drawn(wsc, &further, &with_bank(&map, 1)) == whole, "wsc draws the tiles 512 further on");
 }
 
 /// "Tile bytes that end before a tile the map names", named at any place of the map, under any flip and palette.
