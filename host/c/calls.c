@@ -73,6 +73,7 @@ struct buffers {
     uint8_t input[512];
     uint8_t out[2048];
     uint8_t store[4096];
+    uint8_t common[512];
     uint8_t map[16];
 };
 
@@ -146,6 +147,11 @@ static void no_entry(const char *call, uint32_t number, rumchivoat_entry e) {
 
 static void no_place(const char *call, uint32_t number, rumchivoat_place p) {
     tell(call, number, p.refusal == number && !p.found && !p.place && !p.flip_h && !p.flip_v);
+}
+
+static void no_held(const char *call, uint32_t number, rumchivoat_held h) {
+    bool bare = !h.found && !h.place && !h.flip_h && !h.flip_v && !h.common && !h.at && !h.len;
+    tell(call, number, h.refusal == number && bare);
 }
 
 static void no_picture(const char *call, uint32_t number, rumchivoat_picture p) {
@@ -500,6 +506,141 @@ static void set_read(void) {
     same_set(call, RUMCHIVOAT_REFUSED_ROOM, a, none);
 }
 
+/* ---- titles */
+
+enum { TWO = 2, MOST = 65535 };
+
+/* Nine own tiles as in begin_set, and two common ones, which match none of them. */
+static void begin_title(void) {
+    begin_set();
+    for (uint32_t i = 0; i < TWO; i++) draw_tile(lent.common + 256 * i, NINE + i);
+    keep();
+}
+
+/* The second common tile in the pixels, the order of its rows reversed. */
+static void ask_common(void) {
+    memset(lent.pixels, 0, 256);
+    lent.pixels[16 * 15 + NINE + 1] = 1;
+    lent.pixels[16 * (15 - NINE - 1)] = 2;
+    keep();
+}
+
+/* A set of gb tiles of 8x8, flips on; many_pixels are its common tiles, 65,536 blank ones. */
+static rumchivoat_set cell_set(bool discarding, uint32_t stored) {
+    rumchivoat_set set = {GB, 1, 8, 8, true, false, 0, 0, 0};
+    set.discarding = discarding;
+    set.stored = stored;
+    return set;
+}
+
+/* Blank common tiles, as many as there may be, a blank own one, and a blank tile in the pixels. */
+static void begin_cells(void) {
+    begin();
+    memset(many_pixels, 0, sizeof many_pixels);
+    memset(lent.store, 0, 64);
+    keep();
+}
+
+/* The common tiles are as they were. */
+static bool all_blank(void) {
+    return all_are(many_pixels, sizeof many_pixels, 0);
+}
+
+static bool is_held(rumchivoat_held h, uint32_t place, bool flip_h, bool flip_v, bool common, size_t at, size_t len) {
+    return h.refusal == RUMCHIVOAT_DONE && h.found && h.place == place && h.flip_h == flip_h && h.flip_v == flip_v
+        && h.common == common && h.at == at && h.len == len;
+}
+
+static void title_look_up(void) {
+    static const char call[] = "rumchivoat_title_look_up";
+    rumchivoat_set set = set_of(0, NINE, 0);
+    uint8_t *c = lent.common, *s = lent.store, *p = lent.pixels;
+    size_t room = NINE * 256, wide = TWO * 256;
+    begin_title();
+    /* own tile 3, after two common ones */
+    rumchivoat_held h = rumchivoat_title_look_up(set, TWO, c, wide, s, room, p, 256);
+    tell(call, 0, is_held(h, TWO + 3, true, false, false, 3 * 256, 256));
+    no_held(call, RUMCHIVOAT_REFUSED_MODE,
+            rumchivoat_title_look_up(with_mode(set, NO_MODE), TWO, c, wide, s, room, p, 256));
+    no_held(call, RUMCHIVOAT_REFUSED_DEPTH,
+            rumchivoat_title_look_up(with_depth(set, 1), TWO, c, wide, s, room, p, 256));
+    no_held(call, RUMCHIVOAT_REFUSED_SIZE,
+            rumchivoat_title_look_up(with_width(set, 24), TWO, c, wide, s, room, p, 256));
+    /* more own tiles than their room; then more common ones than their store has, by the count and by the length */
+    no_held(call, RUMCHIVOAT_REFUSED_COUNT,
+            rumchivoat_title_look_up(set_of(0, NINE + 1, 0), TWO, c, wide, s, room, p, 256));
+    no_held(call, RUMCHIVOAT_REFUSED_COUNT, rumchivoat_title_look_up(set, TWO + 1, c, wide, s, room, p, 256));
+    no_held(call, RUMCHIVOAT_REFUSED_COUNT, rumchivoat_title_look_up(set, TWO, c, wide - 1, s, room, p, 256));
+    no_held(call, RUMCHIVOAT_REFUSED_LENGTH, rumchivoat_title_look_up(set, TWO, c, wide, s, room, p, 255));
+    ask_common();
+    h = rumchivoat_title_look_up(set, TWO, c, wide, s, room, p, 256);
+    tell(call, 0, is_held(h, 1, false, true, true, 256, 256));
+    /* where it is not counted it is not found, which is no refusal */
+    no_held(call, 0, rumchivoat_title_look_up(set, 1, c, wide, s, room, p, 256));
+    begin_cells();
+    no_held(call, RUMCHIVOAT_REFUSED_COUNT,
+            rumchivoat_title_look_up(cell_set(true, 1), 3, many_pixels, 191, s, 64, p, 64));
+    /* 65,536 tiles in all */
+    h = rumchivoat_title_look_up(cell_set(true, 1), MOST, many_pixels, sizeof many_pixels, s, 64, p, 64);
+    if (!all_blank()) h.found = true;
+    no_held(call, RUMCHIVOAT_REFUSED_COUNT, h);
+}
+
+static void title_add(void) {
+    static const char call[] = "rumchivoat_title_add";
+    rumchivoat_set set = set_of(0, NINE, 0), other;
+    rumchivoat_set_answer a;
+    uint8_t *c = lent.common, *s = lent.store, *p = lent.pixels;
+    size_t full = NINE * 256, wide = TWO * 256;
+    begin_title();
+    /* it matches an own tile */
+    same_set(call, 0, rumchivoat_title_add(set, TWO, c, wide, s, full, p, 256), set_of(0, NINE, 1));
+    other = with_mode(set, NO_MODE);
+    same_set(call, RUMCHIVOAT_REFUSED_MODE, rumchivoat_title_add(other, TWO, c, wide, s, full, p, 256), other);
+    other = with_depth(set, 1);
+    same_set(call, RUMCHIVOAT_REFUSED_DEPTH, rumchivoat_title_add(other, TWO, c, wide, s, full, p, 256), other);
+    other = with_width(set, 24);
+    same_set(call, RUMCHIVOAT_REFUSED_SIZE, rumchivoat_title_add(other, TWO, c, wide, s, full, p, 256), other);
+    other = set_of(NINE - 1, NINE, 0);
+    same_set(call, RUMCHIVOAT_REFUSED_COUNT, rumchivoat_title_add(other, TWO, c, wide, s, full, p, 256), other);
+    same_set(call, RUMCHIVOAT_REFUSED_COUNT, rumchivoat_title_add(set, TWO + 1, c, wide, s, full, p, 256), set);
+    same_set(call, RUMCHIVOAT_REFUSED_COUNT, rumchivoat_title_add(set, TWO, c, wide - 1, s, full, p, 256), set);
+    same_set(call, RUMCHIVOAT_REFUSED_LENGTH, rumchivoat_title_add(set, TWO, c, wide, s, full, p, 255), set);
+    other = set_of(0, NINE, 4294967295u);
+    same_set(call, RUMCHIVOAT_REFUSED_DISCARDED, rumchivoat_title_add(other, TWO, c, wide, s, full, p, 256), other);
+    ask_common();
+    same_set(call, 0, rumchivoat_title_add(set, TWO, c, wide, s, full, p, 256), set_of(0, NINE, 1));
+    same_set(call, RUMCHIVOAT_REFUSED_DISCARDED, rumchivoat_title_add(other, TWO, c, wide, s, full, p, 256), other);
+    /* with discarding off it is stored though it matches a common one */
+    other = set_of(0, NINE, 0);
+    other.discarding = false;
+    a = rumchivoat_title_add(other, TWO, c, wide, s, full + 256, p, 256);
+    memcpy(due.store + full, lent.pixels, 256);
+    other.stored = NINE + 1;
+    same_set(call, 0, a, other);
+    /* a tile that matches none: refused where the store is full, else stored, cut to the depth */
+    p[0] = 4 + 3;
+    keep();
+    same_set(call, RUMCHIVOAT_REFUSED_ROOM, rumchivoat_title_add(set, TWO, c, wide, s, full, p, 256), set);
+    a = rumchivoat_title_add(set, TWO, c, wide, s, full + 256, p, 256);
+    memcpy(due.store + full, lent.pixels, 256);
+    due.store[full] = 3;
+    same_set(call, 0, a, set_of(0, NINE + 1, 0));
+    /* 65,536 tiles in all; then 65,535 and one more to be stored: with discarding off, and one that matches none */
+    begin_cells();
+    a = rumchivoat_title_add(cell_set(true, 1), MOST, many_pixels, sizeof many_pixels, s, 64, p, 64);
+    if (!all_blank()) a.set.stored = TOO_MANY;
+    same_set(call, RUMCHIVOAT_REFUSED_COUNT, a, cell_set(true, 1));
+    a = rumchivoat_title_add(cell_set(false, 0), MOST, many_pixels, sizeof many_pixels, s, 64, p, 64);
+    if (!all_blank()) a.set.stored = TOO_MANY;
+    same_set(call, RUMCHIVOAT_REFUSED_ROOM, a, cell_set(false, 0));
+    p[0] = 1;
+    keep();
+    a = rumchivoat_title_add(cell_set(true, 0), MOST, many_pixels, sizeof many_pixels, s, 64, p, 64);
+    if (!all_blank()) a.set.stored = TOO_MANY;
+    same_set(call, RUMCHIVOAT_REFUSED_ROOM, a, cell_set(true, 0));
+}
+
 static void numbers(void) {
     static const char native[] = "rumchivoat_native_number", logical[] = "rumchivoat_logical_number";
     begin();
@@ -659,6 +800,24 @@ static void cured_sets(void) {
     tell("rumchivoat_set_read", 0, read.stored == 65535 && all_are(many_pixels, 64 * 65535, 0));
 }
 
+static void cured_titles(void) {
+    rumchivoat_held h;
+    rumchivoat_set_answer a;
+    uint8_t *s = lent.store, *p = lent.pixels;
+    begin_cells();
+    h = rumchivoat_title_look_up(cell_set(true, 1), 3, many_pixels, 192, s, 64, p, 64);
+    tell("rumchivoat_title_look_up", 0, is_held(h, 0, false, false, true, 0, 64));
+    /* 65,535 tiles in all, the own one last */
+    s[0] = p[7] = 1;
+    keep();
+    h = rumchivoat_title_look_up(cell_set(true, 1), MOST - 1, many_pixels, sizeof many_pixels, s, 64, p, 64);
+    tell("rumchivoat_title_look_up", 0, is_held(h, MOST - 1, true, false, false, 0, 64));
+    a = rumchivoat_title_add(cell_set(true, 0), MOST - 1, many_pixels, sizeof many_pixels, s, 64, p, 64);
+    memcpy(due.store, lent.pixels, 64);
+    if (!all_blank()) a.set.stored = TOO_MANY;
+    same_set("rumchivoat_title_add", 0, a, cell_set(true, 1));
+}
+
 static void cured_pictures(void) {
     static const uint8_t more[32] = {0x80}, names_more[4] = {0x00, 0x00, 0x01, 0x00};
     rumchivoat_picture done;
@@ -780,12 +939,15 @@ static void every_call(void) {
     set_add();
     set_write();
     set_read();
+    title_look_up();
+    title_add();
     numbers();
     convert();
     redraw();
     run();
     cured_tiles();
     cured_sets();
+    cured_titles();
     cured_pictures();
     cured_sheet();
 }

@@ -3,8 +3,8 @@
  *
  * Every call answers every input. `refusal` is RUMCHIVOAT_DONE, or the number of the refusal; where several apply, the
  * first in the order below is given (docs/REFUSALS.md has causes and cures). Of a refused call every other field is 0 or
- * false, and no lent byte has changed, but for these: set_reset and set_add hand back the set that came, and run writes
- * its line. A call that is done leaves the bytes after the written length as they were.
+ * false, and no lent byte has changed, but for these: set_reset, set_add and title_add hand back the set that came, and
+ * run writes its line. A call that is done leaves the bytes after the written length as they were.
  *
  * What the caller owes: a lent slice is a pointer, not null even where the length is 0, and so many bytes behind it; a
  * slice that is written overlaps no other slice of the call; a bool is 0 or 1. No call allocates, keeps a pointer,
@@ -22,7 +22,7 @@
 #include <stdint.h>
 
 /* The number of the interface that this header is about. Compare it with rumchivoat_interface() of the archive. */
-#define RUMCHIVOAT_INTERFACE 3
+#define RUMCHIVOAT_INTERFACE 4
 
 /* ---- the sixteen modes */
 
@@ -53,7 +53,7 @@
 #define RUMCHIVOAT_REFUSED_DEPTH 3u           /* depth not in the mode's row */
 #define RUMCHIVOAT_REFUSED_SIZE 4u            /* tile size not allowed, columns or rows outside 1..64, tile above 65,535 */
 #define RUMCHIVOAT_REFUSED_FLIPS 5u           /* picture with flips on in a mode without flips */
-#define RUMCHIVOAT_REFUSED_COUNT 6u           /* set state counts more tiles than its room */
+#define RUMCHIVOAT_REFUSED_COUNT 6u           /* more tiles counted than the room, than the common store, than 65,535 */
 #define RUMCHIVOAT_REFUSED_LENGTH 7u          /* input length not the one required; a map that names a tile not there */
 #define RUMCHIVOAT_REFUSED_PIXEL 8u           /* a pixel of 2^depth or more, in tile packing or set writing */
 #define RUMCHIVOAT_REFUSED_COMPONENT 9u       /* a component r, g or b above the top */
@@ -62,7 +62,7 @@
 #define RUMCHIVOAT_REFUSED_ENTRY_FLIP 17u     /* a flip of an entry where there is none */
 #define RUMCHIVOAT_REFUSED_ENTRY_PRIORITY 18u /* priority of an entry where there is none */
 #define RUMCHIVOAT_REFUSED_OUTPUT 11u         /* output buffer shorter than the bytes to be written */
-#define RUMCHIVOAT_REFUSED_ROOM 12u           /* no room for the tiles */
+#define RUMCHIVOAT_REFUSED_ROOM 12u           /* no room for the tiles; a title would pass 65,535 */
 #define RUMCHIVOAT_REFUSED_DISCARDED 13u      /* discarding on, discard counter 4,294,967,295, and an added tile matches */
 
 /* ---- how large buffers are, in bytes. For arguments that the calls accept; the products are size_t. */
@@ -157,6 +157,20 @@ typedef struct rumchivoat_place {
     bool flip_h;
     bool flip_v;
 } rumchivoat_place;
+
+/* Of a title's look-up: as a look-up's, and the tile's pixels as a part of the store that holds them, `len` bytes from
+ * byte `at` of the common store where `common` is true, and of the title's own where it is not. Where `found` is false,
+ * all else is 0 or false. */
+typedef struct rumchivoat_held {
+    uint32_t refusal;
+    bool found;
+    uint32_t place;
+    bool flip_h;
+    bool flip_v;
+    bool common;
+    size_t at;
+    size_t len;
+} rumchivoat_held;
 
 /* Of a conversion: tiles stored and discarded, and how much of both buffers is written. */
 typedef struct rumchivoat_picture {
@@ -296,6 +310,30 @@ rumchivoat_number rumchivoat_native_number(uint32_t mode, uint32_t width, uint32
  * Reads and writes no lent byte. Refused: 1 mode; 2 pce_sprite; 4 width or height as in rumchivoat_set_new, or the
  * tile's number would be above 65,535. Stack: RUMCHIVOAT_STACK_OTHERS. */
 rumchivoat_number rumchivoat_logical_number(uint32_t mode, uint32_t width, uint32_t height, uint32_t native);
+
+/* Finds the first tile of a title that matches: of the common ones, then of its own, flips as in rumchivoat_set_look_up.
+ * A title is a set with a common store beside its own: common_count tiles of the set's size, which no call writes, and
+ * which other titles may be lent too. Own tiles are numbered after the common ones. A title's set is made, reset, written
+ * and read by the set's calls.
+ * Reads    `common`: its first common_count tiles; `store`: the stored tiles; `pixels`: width x height, each cut to its
+ *          low depth bits.
+ * Refused  1 mode; 3 depth; 4 width or height; 6 the set counts more tiles than its room, common_count is more than the
+ *          whole tiles of `common`, or both counts together are more than 65,535; 7 pixels_len.
+ * Stack    RUMCHIVOAT_STACK_OTHERS. */
+rumchivoat_held rumchivoat_title_look_up(rumchivoat_set set, uint32_t common_count, const uint8_t *common,
+                                         size_t common_len, const uint8_t *store, size_t store_len,
+                                         const uint8_t *pixels, size_t pixels_len);
+
+/* Adds a tile to a title's own set: discarded where discarding is on and it matches a common or an own one, else stored
+ * at the end of the own ones.
+ * Reads    `common`, `store` and `pixels`, as rumchivoat_title_look_up.
+ * Writes   `store`: the tile's pixels after those stored, where it is stored.
+ * Refused  with the set that came: 1 mode; 3 depth; 4 width or height; 6 as rumchivoat_title_look_up; 7 pixels_len;
+ *          12 no room for it, or both counts together are 65,535; 13 it is to be discarded and the counter is full.
+ * Stack    RUMCHIVOAT_STACK_OTHERS. */
+rumchivoat_set_answer rumchivoat_title_add(rumchivoat_set set, uint32_t common_count, const uint8_t *common,
+                                           size_t common_len, uint8_t *store, size_t store_len, const uint8_t *pixels,
+                                           size_t pixels_len);
 
 /* Converts a picture of columns x rows tiles of 8x8, 1 to 64 of each, into tiles and a map. Room is the least of the
  * limit if it is not 0, the tile numbers that an entry can hold, and the whole tiles of `tiles`.

@@ -22,10 +22,10 @@
 //! # Two layers
 //!
 //! The plain calls ([`convert`], [`pack_colors`], [`Set::add`] ..) take numbers and lent slices, as the archive does, and
-//! answer a [`Refusal`]: they cost what the archive's calls cost. The typed layer ([`Settings`], [`TileSet`], [`Entry`],
-//! the calls that end in `_to_vec`) is thin over them. It names what is easily swapped, ties a set to its store, and
-//! answers [`Refused`], whose words tell the values: `refused 15: tile index 4096 is too large: pce has
-//! tiles 0 to 4095`.
+//! answer a [`Refusal`]: they cost what the archive's calls cost. The typed layer ([`Settings`], [`TileSet`], [`Title`],
+//! [`Entry`], the calls that end in `_to_vec`) is thin over them. It names what is easily swapped, ties a set to its
+//! store and a title to the store that it has in common with others, and answers [`Refused`], whose words tell the
+//! values: `refused 15: tile index 4096 is too large: pce has tiles 0 to 4095`.
 //!
 //! A mode is given as a [`Mode`] or by its number, so that a number read from elsewhere needs no check of its own: a
 //! number above 15 is answered with [`Refusal::Mode`].
@@ -80,6 +80,7 @@ mod sheet;
 pub mod stack;
 mod tile;
 mod tile_set;
+mod title;
 
 pub use color::{
     Rounding, pack_colors, pack_colors_to_vec, reduce_channel, scale_up, unpack_colors, unpack_colors_to_vec,
@@ -94,6 +95,7 @@ pub use set::{Logical, Native, Place, Set, logical_number, native_number};
 pub use sheet::{LONGEST_TEXT, Ran, Text, run, run_to_vec};
 pub use tile::{TileSize, pack_tile, pack_tile_to_vec, unpack_tile, unpack_tile_to_vec};
 pub use tile_set::{SetSettings, TileSet};
+pub use title::{Held, Title};
 
 /// The README's example is compiled and run as well.
 #[cfg(doctest)]
@@ -112,5 +114,6 @@ mod tests {
         is_shared_by_threads::<(Rounding, Entry, TileSize, MapSize, Settings, Picture, Converted)>();
         is_shared_by_threads::<(Set, SetSettings, Place, Native, Logical, Ran, Text)>();
         is_shared_by_threads::<(TileSet<Vec<u8>>, TileSet<&mut [u8]>)>();
+        is_shared_by_threads::<(Held, Title<Vec<u8>>, Title<&mut [u8]>)>();
     }
 }

@@ -5,9 +5,11 @@
 
 mod picture;
 mod sheet;
+mod title;
 
 pub(crate) use picture::{convert, redraw};
 pub(crate) use sheet::run;
+pub(crate) use title::{title_add, title_look_up};
 
 use crate::{Logical, Refusal, Set};
 

@@ -32,7 +32,8 @@ pub enum Refusal {
     Size,
     /// 5: picture with flips on in a mode without flips.
     Flips,
-    /// 6: set state counts more tiles than its room.
+    /// 6: set state counts more tiles than its room; of a title also more common tiles than their store holds, or more
+    /// than 65,535 with its own.
     Count,
     /// 7: input length not the one required; in redrawing also tile bytes that end before a tile the map names.
     Length,
@@ -127,7 +128,7 @@ impl Refusal {
                 "the mode has no tiles of this size, columns or rows are not 1 to 64, or a tile number is above 65,535"
             }
             Refusal::Flips => "flips are on, and the mode has none",
-            Refusal::Count => "the set counts more tiles than it has room for",
+            Refusal::Count => "more tiles are counted than there is room for, or than the common store holds",
             Refusal::Length => "the input is not as long as it must be, or the map names a tile that is not there",
             Refusal::Pixel => "a pixel does not fit the depth",
             Refusal::Component => "a colour component is above the mode's top",

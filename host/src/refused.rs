@@ -144,12 +144,33 @@ pub enum Cause {
         /// The tiles that there is room for.
         room: usize,
     },
+    /// One more tile would bring a title's common and own tiles above 65,535.
+    RoomBeside {
+        /// The common tiles.
+        common: u32,
+        /// The own tiles that there is room for beside them.
+        room: usize,
+    },
     /// The set counts more tiles than there is room for.
     Count {
         /// The tiles counted.
         stored: u32,
         /// The tiles that there is room for.
         room: usize,
+    },
+    /// More common tiles are counted than their store holds.
+    CommonCount {
+        /// The tiles counted.
+        counted: u32,
+        /// The tiles that the common store holds.
+        tiles: usize,
+    },
+    /// A title's common and own tiles are more than 65,535.
+    BothCounts {
+        /// The common tiles counted.
+        common: u32,
+        /// The own tiles counted.
+        own: u32,
     },
 }
 
@@ -234,9 +255,18 @@ impl Cause {
                 write!(f, "the {what} needs {} and has {space}", Counted(needed, "byte"))
             }
             Cause::Room { room } => write!(f, "there is room for {} and no more", Counted(room, "tile")),
+            Cause::RoomBeside { common, room } => {
+                let common = Counted(common as usize, "common tile");
+                write!(f, "beside {common} there is room for {room} and no more")
+            }
             Cause::Count { stored, room } => {
                 write!(f, "the set counts {}, and there is room for {room}", Counted(stored as usize, "tile"))
             }
+            Cause::CommonCount { counted, tiles } => {
+                let are = number_of(counted as usize, "is", "are");
+                write!(f, "the common store holds {}, and {counted} {are} counted", Counted(tiles, "tile"))
+            }
+            Cause::BothCounts { common, own } => write!(f, "{common} common and {own} own tiles pass 65,535"),
         }
     }
 

@@ -178,8 +178,8 @@ impl SetSettings {
 /// ```
 #[derive(Debug, Clone)]
 pub struct TileSet<S> {
-    set: Set,
-    store: S,
+    pub(crate) set: Set,
+    pub(crate) store: S,
 }
 
 impl<S: AsRef<[u8]> + AsMut<[u8]>> TileSet<S> {
@@ -365,9 +365,7 @@ impl<S: AsRef<[u8]> + AsMut<[u8]>> TileSet<S> {
         if number.0 >= self.set.stored {
             return None;
         }
-        let pixels = self.set.size().pixels();
-        let start = (number.0 as usize).checked_mul(pixels)?;
-        self.store.as_ref().get(start..start.checked_add(pixels)?)
+        tile_at(self.store.as_ref(), self.set.size(), number.0)
     }
 
     /// How many tiles are stored.
@@ -412,13 +410,19 @@ impl<S: AsRef<[u8]> + AsMut<[u8]>> TileSet<S> {
     }
 
     /// Why a call on so many pixels was refused.
-    fn why(&self, refusal: Refusal, given: usize) -> Refused {
+    pub(crate) fn why(&self, refusal: Refusal, given: usize) -> Refused {
         let cause = match refusal {
             Refusal::Length => Cause::Length { what: "pixel", needed: self.set.size().pixels(), given },
             _ => self.set.why_refused(refusal, self.store.as_ref().len()),
         };
         Refused::new(refusal, cause)
     }
+}
+
+/// The pixels of a tile of this size in a store; `None` where the store has no such tile.
+pub(crate) fn tile_at(store: &[u8], size: TileSize, number: u32) -> Option<&[u8]> {
+    let start = (number as usize).checked_mul(size.pixels())?;
+    store.get(start..start.checked_add(size.pixels())?)
 }
 
 /// The bytes of a cell; 1 of a depth that is none.

@@ -12,6 +12,8 @@ mod sets;
 mod sheets;
 #[path = "document/tiles.rs"]
 mod tiles;
+#[path = "document/titles.rs"]
+mod titles;
 
 use common::{assert_writes, on_noise, rooms, told};
 use reading::{MODES, Random, Row};

@@ -2,8 +2,9 @@
 //! refused.
 
 use rumchivoat::{
-    MapSize, Mode, Refusal, Set, SetSettings, Settings, TileSet, TileSize, convert, pack_colors, pack_colors_to_vec,
-    pack_tile, pack_tile_to_vec, redraw, unpack_colors, unpack_colors_to_vec, unpack_tile, unpack_tile_to_vec,
+    MapSize, Mode, Refusal, Set, SetSettings, Settings, TileSet, TileSize, Title, convert, pack_colors,
+    pack_colors_to_vec, pack_tile, pack_tile_to_vec, redraw, unpack_colors, unpack_colors_to_vec, unpack_tile,
+    unpack_tile_to_vec,
 };
 
 const SIDES: [u32; 6] = [0, 8, 16, 32, 64, 128];
@@ -161,6 +162,34 @@ fn read_sets() {
                 let words = format!("refused 11: the store needs {needed} bytes and has {}", needed - 1);
                 assert_eq!(refused.to_string(), words, "{mode} {depth} {size} {cells} cells");
             }
+        }
+    }
+}
+
+/// A title takes as many tiles as its room says, and not one more, whatever bounds it: the own store, the limit, or the
+/// common tiles.
+#[test]
+fn titles() {
+    let settings = SetSettings::new(Mode::Gb, 1, TileSize::CELL);
+    let common = vec![0; settings.store_len(65_535).unwrap()];
+    for (count, tiles, limit, room) in [
+        (0, 0, 0, 0),
+        (1, 5, 0, 5),
+        (2, 5, 3, 3),
+        (65_535, 5, 0, 0),
+        (65_532, 5, 0, 3),
+        (65_532, 5, 2, 2),
+        (65_530, 5, 0, 5),
+    ] {
+        for more in [0, 63] {
+            let store = vec![0; settings.store_len(tiles).unwrap() + more];
+            let mut title = Title::new(settings.limit(limit), count, &common, store).unwrap();
+            assert_eq!(title.room(), room, "{count} common, {tiles} tiles of its own");
+            for _ in 0..room {
+                assert_eq!(title.add(&[1; 64]), Ok(()));
+            }
+            assert_eq!(title.add(&[1; 64]).map_err(Refusal::from), Err(Refusal::Room));
+            assert_eq!((title.own().len(), title.room()), (room, room));
         }
     }
 }

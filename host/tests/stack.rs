@@ -6,9 +6,9 @@ use std::thread;
 
 use rumchivoat::{
     Entry, LONGEST_TEXT, Logical, MapSize, Mode, Native, Rounding, Set, SetSettings, Settings, TileSet, TileSize,
-    attribute, check_interface, convert, logical_number, native_number, pack_colors, pack_colors_to_vec, pack_entry,
-    pack_tile, pack_tile_to_vec, redraw, reduce_channel, run, run_to_vec, scale_up, stack, tile_index, unpack_colors,
-    unpack_colors_to_vec, unpack_entry, unpack_tile, unpack_tile_to_vec,
+    Title, attribute, check_interface, convert, logical_number, native_number, pack_colors, pack_colors_to_vec,
+    pack_entry, pack_tile, pack_tile_to_vec, redraw, reduce_channel, run, run_to_vec, scale_up, stack, tile_index,
+    unpack_colors, unpack_colors_to_vec, unpack_entry, unpack_tile, unpack_tile_to_vec,
 };
 
 /// What Rust's start of a thread takes of its stack, before and after the call, with the system's share of it. The
@@ -231,6 +231,37 @@ fn sets() -> Vec<Call> {
     ]
 }
 
+/// Snes tiles of 64x64, two of them common and two the title's own. The common store is there as long as the program.
+fn titles() -> Vec<Call> {
+    let settings = SetSettings::new(Mode::Snes, 8, TileSize { width: 64, height: 64 }).flips().discarding();
+    let tiles = different_pixels(5 * 4096);
+    let common: &'static [u8] = tiles[..2 * 4096].to_vec().leak();
+    let mut title = Title::new(settings, 2, common, vec![0; 2 * 4096]).unwrap();
+    for tile in tiles[2 * 4096..4 * 4096].chunks_exact(4096) {
+        title.add(tile).unwrap();
+    }
+    let (set, mut store) = title.clone().into_own().into_parts();
+    let (last, other) = (tiles[3 * 4096..4 * 4096].to_vec(), tiles[4 * 4096..].to_vec());
+    let (mut emptied, mut full, own) = (set, title.clone(), store.clone());
+    let [one, two, three, four] = [other.clone(), other.clone(), last, other];
+    let others =
+        |name, done, each: Box<dyn FnMut() -> bool + Send>| Call { name, stated: stack::OTHERS, call: each, done };
+    vec![
+        others("Set::title_look_up", true, Box::new(move || set.title_look_up(2, common, &own, &one).is_ok())),
+        others(
+            "Set::title_add",
+            true,
+            Box::new(move || {
+                emptied.stored = 0;
+                emptied.title_add(2, common, &mut store, &two).is_ok()
+            }),
+        ),
+        others("Title::look_up", true, Box::new(move || title.look_up(&three).is_ok_and(|held| held.is_some()))),
+        others("Title::add, no room", false, Box::new(move || full.add(&four).is_ok())),
+        others("Title::new, no such tiles", false, Box::new(move || Title::new(settings, 3, common, [0; 64]).is_ok())),
+    ]
+}
+
 fn redraws() -> Vec<Call> {
     let cases = [("redraw", Mode::Snes, 8, 32), ("redraw, pce 64x64", Mode::Pce, 4, 64)];
     let mut calls = Vec::new();
@@ -254,7 +285,7 @@ fn redraws() -> Vec<Call> {
 }
 
 fn calls() -> Vec<Call> {
-    [conversions(), runs(), redraws(), tiles(), colors(), entries(), sets()].into_iter().flatten().collect()
+    [conversions(), runs(), redraws(), tiles(), colors(), entries(), sets(), titles()].into_iter().flatten().collect()
 }
 
 /// What no call leaves all over its stack.

@@ -2,7 +2,7 @@
 
 use std::thread;
 
-use rumchivoat::{Converted, MapSize, Mode, Settings, run_to_vec};
+use rumchivoat::{Converted, MapSize, Mode, Set, SetSettings, Settings, TileSize, Title, run_to_vec};
 
 const THREADS: usize = 8;
 const TURNS: usize = 20;
@@ -32,6 +32,42 @@ fn work(number: usize) -> (Converted, Vec<u8>, Vec<u8>) {
     let text = run_to_vec(&sheet(number, settings)).expect("every text fits");
     assert_eq!(text.told, None);
     (converted, redrawn, text.bytes)
+}
+
+/// So many tiles of 8x8 that depend on the number; some of them are those of another number.
+fn tiles(number: usize, count: usize) -> Vec<u8> {
+    (0..64 * count).map(|place| (place / 64 * (number + 1) % 11 * (place % 3) % 4) as u8).collect()
+}
+
+/// What is left of a title: its set and its store, and where each tile was found, in the common store or not.
+type Left = (Set, Vec<u8>, Vec<Option<(u32, bool)>>);
+
+/// A title over the common store that is all the threads', each of its tiles added and looked up.
+fn title_work(number: usize, common: &[u8]) -> Left {
+    let settings = SetSettings::new(Mode::Snes, 2, TileSize::CELL).flips().discarding();
+    let mut title = Title::new(settings, 16, common, vec![0; 64 * 64]).expect("the common store holds 16 tiles");
+    let mut places = Vec::new();
+    for tile in tiles(number, 40).chunks_exact(64) {
+        title.add(tile).expect("there is room");
+        places.push(title.look_up(tile).expect("the tile has 64 pixels").map(|held| (held.place.0, held.common)));
+    }
+    let (set, store) = title.into_own().into_parts();
+    (set, store, places)
+}
+
+#[test]
+fn titles_do_not_meet() {
+    let common = tiles(THREADS, 16);
+    let alone: Vec<_> = (0..THREADS).map(|number| title_work(number, &common)).collect();
+    assert!(alone.iter().any(|(_, _, places)| places.iter().flatten().any(|&(_, common)| common)));
+    thread::scope(|scope| {
+        for (number, expected) in alone.iter().enumerate() {
+            let common = &common;
+            scope.spawn(move || {
+                (0..TURNS).for_each(|_| assert!(title_work(number, common) == *expected, "title {number}"));
+            });
+        }
+    });
 }
 
 #[test]

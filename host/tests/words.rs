@@ -1,7 +1,7 @@
 //! The words of a refusal tell the values, need no paper at hand, and belong to the number that the archive gave.
 
 use rumchivoat::{
-    Cause, Entry, Logical, MapSize, Mode, Native, Refusal, Refused, SetSettings, Settings, TileSet, TileSize,
+    Cause, Entry, Logical, MapSize, Mode, Native, Refusal, Refused, SetSettings, Settings, TileSet, TileSize, Title,
     pack_colors_to_vec, pack_tile_to_vec, unpack_colors_to_vec, unpack_tile_to_vec,
 };
 
@@ -164,6 +164,46 @@ fn sets() {
 }
 
 #[test]
+fn titles() {
+    let settings = SetSettings::new(Mode::Snes, 2, TileSize::CELL).discarding();
+    let font = [1; 128];
+    let new = |settings, count, common: &[u8]| words(Title::new(settings, count, common, [0; 64]));
+    assert_eq!(new(settings, 3, &font), "refused 6: the common store holds 2 tiles, and 3 are counted");
+    assert_eq!(new(settings, 2, &font[1..]), "refused 6: the common store holds 1 tile, and 2 are counted");
+    assert_eq!(new(settings, 1, &[]), "refused 6: the common store holds 0 tiles, and 1 is counted");
+    let wide = SetSettings::new(Mode::Md, 4, TileSize { width: 16, height: 32 });
+    assert_eq!(new(wide, 3, &font), "refused 4: md has no tiles of 16x32");
+    let none = SetSettings::new(16u32, 2, TileSize::CELL);
+    assert_eq!(new(none, 3, &font), "refused 1: there is no mode 16: the modes are 0 to 15");
+
+    let mut title = Title::new(settings.limit(1), 2, &font, vec![0; 640]).unwrap();
+    assert_eq!(words(title.add(&[0; 63])), "refused 7: 64 pixels are needed, 63 were given");
+    assert_eq!(words(title.look_up(&[0; 65])), "refused 7: 64 pixels are needed, 65 were given");
+    title.add(&[2; 64]).unwrap();
+    assert_eq!(words(title.add(&[3; 64])), "refused 12: there is room for 1 tile and no more");
+}
+
+/// Common and own tiles are 65,535 at most: the words tell both.
+#[test]
+fn the_most_tiles_of_a_title() {
+    let settings = SetSettings::new(Mode::Gb, 1, TileSize::CELL);
+    let most = vec![0; settings.store_len(65_535).unwrap() + 64];
+    let new = |count| words(Title::new(settings, count, &most, [0; 64]));
+    assert_eq!(new(65_536), "refused 6: 65536 common and 0 own tiles pass 65,535");
+    let mut title = Title::new(settings, 65_534, &most, vec![0; 640]).unwrap();
+    assert_eq!(title.room(), 1);
+    title.add(&[1; 64]).unwrap();
+    assert_eq!(words(title.add(&[1; 64])), "refused 12: beside 65534 common tiles there is room for 1 and no more");
+    let own = title.into_own();
+    assert_eq!(words(Title::with_own(own, 65_535, &most)), "refused 6: 65535 common and 1 own tiles pass 65,535");
+
+    let read = TileSet::read(Mode::Gb, 1, TileSize::CELL, false, &vec![0; 65_534 * 8], most.clone()).unwrap();
+    assert_eq!(words(Title::with_own(read.clone(), 2, &most)), "refused 6: 2 common and 65534 own tiles pass 65,535");
+    let mut title = Title::with_own(read, 1, &most).unwrap();
+    assert_eq!(words(title.add(&[1; 64])), "refused 12: beside 1 common tile there is room for 65534 and no more");
+}
+
+#[test]
 fn tile_numbers() {
     let large = SetSettings::new(Mode::Snes, 2, TileSize { width: 16, height: 16 });
     assert_eq!(words(large.native_number(Logical(65_536))), "refused 4: number 65536 leads to a tile above 65,535");
@@ -182,6 +222,11 @@ fn a_store_that_shrinks_is_told() {
     set.add(&[1; 64]).unwrap();
     assert_eq!(words(set.add(&[2; 64])), "refused 6: the set counts 1 tile, and there is room for 0");
     assert_eq!(words(set.write_to_vec()), "refused 6: the set counts 1 tile, and there is room for 0");
+    let settings = SetSettings::new(Mode::Snes, 2, TileSize::CELL);
+    let mut title = Title::new(settings, 1, &[3; 64], Shrinking(vec![0; 128])).unwrap();
+    title.add(&[1; 64]).unwrap();
+    assert_eq!(words(title.add(&[2; 64])), "refused 6: the set counts 1 tile, and there is room for 0");
+    assert_eq!(words(title.look_up(&[1; 64])), "refused 6: the set counts 1 tile, and there is room for 0");
 }
 
 /// A store that has half its length when it is asked for again.

@@ -42,6 +42,10 @@ use Rattle.rumchivoat.proofs.rumchivoat_native_number.Reads as native-number
 use Rattle.rumchivoat.proofs.rumchivoat_native_number.Kinds as native-number-kinds
 use Rattle.rumchivoat.proofs.rumchivoat_logical_number.Reads as logical-number
 use Rattle.rumchivoat.proofs.rumchivoat_logical_number.Kinds as logical-number-kinds
+use Rattle.rumchivoat.proofs.rumchivoat_title_look_up.Reads as title-look-up
+use Rattle.rumchivoat.proofs.rumchivoat_title_look_up.Kinds as title-look-up-kinds
+use Rattle.rumchivoat.proofs.rumchivoat_title_add.Reads as title-add
+use Rattle.rumchivoat.proofs.rumchivoat_title_add.Kinds as title-add-kinds
 use Rattle.rumchivoat.proofs.rumchivoat_convert.Reads as convert
 use Rattle.rumchivoat.proofs.rumchivoat_convert.Kinds as convert-kinds
 use Rattle.rumchivoat.proofs.rumchivoat_redraw.Reads as redraw
@@ -132,6 +136,15 @@ native-number-result κs a x y s t p q = p ∙ sym q
 
 pub logical-number-result : OneResult 0 logical-number-kinds.ps logical-number-kinds.r logical-number.Post
 logical-number-result κs a x y s t p q = p ∙ sym q
+
+pub title-look-up-result : OneResult 2 title-look-up-kinds.ps title-look-up-kinds.r title-look-up.Post
+title-look-up-result κs a x y s t p q = p ∙ sym q
+
+pub title-add-result : OneResult 3 title-add-kinds.ps title-add-kinds.r title-add.Post
+title-add-result κs a x y s t p q = p .answer ∙ sym (q .answer)
+
+pub title-add-content : OneContent 3 title-add-kinds.ps title-add-kinds.r title-add.Post (λ κs s. now (s .1 .1 .1 .0))
+title-add-content κs a x y s t p q = p .lent ∙ sym (q .lent)
 
 pub convert-result : OneResult 3 convert-kinds.ps convert-kinds.r convert.Post
 convert-result κs a x y s t p q = p .answer ∙ sym (q .answer)

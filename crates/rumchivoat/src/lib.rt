@@ -9,6 +9,7 @@ use tileset::Native;
 use tileset::Place;
 use tileset::Set;
 use tileset::SetAnswer;
+use title::Held;
 use words::Number;
 use words::Written;
 ghost use mathlib.Core.Path.{_≡_};
@@ -25,6 +26,7 @@ ghost use Rattle.tileset.specs.Adding.{addSays, added, storeWith, Adds};
 ghost use Rattle.tileset.specs.Writing.{writeSays, setBytes};
 ghost use Rattle.tileset.specs.Reading.{Reads};
 ghost use Rattle.tileset.specs.Numbers.{nativeSays, firstCell, logicalSays, tileOf};
+ghost use Rattle.title.specs.Titles.{titleHeld, AddsToTitle};
 ghost use Rattle.picture.specs.Converting.{convertSays, Converts};
 ghost use Rattle.picture.specs.Redrawing.{redrawSays, drawn};
 ghost use Rattle.sheet.specs.Program.{numberOf, textOf, Ran};
@@ -35,7 +37,7 @@ ghost use Rattle.rumchivoat.specs.Station.{interface, roundingOf, entryF
 pub extern "C" fn rumchivoat_interface() -> u32
     ensures { λ r. ⌜ r ≡ interface ⌝ }
 {
-    3
+    4
 }
 
 // A native tile: pixels to the mode's bytes.
@@ -283,6 +285,34 @@ pub extern "C" fn rumchivoat_logical_number(
         refusal: answer.refusal,
         value: answer.number.0,
     }
+}
+
+// The first tile of a title that matches, among the common ones and then its own: its flip, and its part of the store that has it.
+#[no_mangle]
+pub extern "C" fn rumchivoat_title_look_up<'a>(
+    set: Set,
+    common_count: u32,
+    common: &'a [u8],
+    store: &'a [u8],
+    pixels: &[u8],
+) -> Held
+    ensures { λ r. ⌜ r ≡ titleHeld set «common_count» (now (common .entry)) (now (store .entry)) (now (pixels .entry)) ⌝ }
+{
+    title::look_up(set, common_count, common, store, pixels)
+}
+
+// A title's own set with one tile more: stored, or discarded where it matches a common or an own one.
+#[no_mangle]
+pub extern "C" fn rumchivoat_title_add(
+    set: Set,
+    common_count: u32,
+    common: &[u8],
+    store: &mut [u8],
+    pixels: &[u8],
+) -> SetAnswer
+    ensures { λ r. ⌜ AddsToTitle set «common_count» (now (common .entry)) (now (store .entry)) (now (pixels .entry)) r (now (store .exit)) ⌝ }
+{
+    title::add(set, common_count, common, store, pixels)
 }
 
 // A picture to tiles and a map.

@@ -59,7 +59,7 @@ module _ (z : Set) (s p : List ℕ) (ps : List (List ℕ)) (roomy : Roomy z s (p
   done = done-by (discards z (foundIn z s p)) refl
 
   -- the set that an add leaves has room for the others
-  others : {next : Set} {store : List ℕ} → Grown z s p next store → Roomy next store ps
+  others : {next : Set} {store : List ℕ} → Grown [] z s p next store → Roomy next store ps
   others {next} {store} g =
       let now = withCounts z (next .stored) (next .discarded) in
       let same : keptAfter now store ps ≡ keptAfter z s (p ∷ ps) =

@@ -61,8 +61,8 @@ module _ (z : Set) (s : List ℕ) (first : Since) (from : first ≡ sinceStart z
   abbrev end : Set
   end = lastSet z cs
 
-  stands : Stands z t end (lastStore s cs)
-  stands = after-calls z (rw from (stands-start z s)) cs k
+  stands : Stands [] z t end (lastStore s cs)
+  stands = after-calls z (rw from (stands-start [] z s)) cs k
 
   -- "stored + discarded = adds answered 0"
   pub calls-sum : end .stored + end .discarded ≡ t .stored + t .discarded + length (t .taken)
@@ -70,12 +70,12 @@ module _ (z : Set) (s : List ℕ) (first : Since) (from : first ≡ sinceStart z
 
   -- "discarded is the number of those whose tile matched one read or accepted earlier (0 with discarding off)"
   pub calls-discarded : end .discarded ≡ t .discarded + repeats (z .discarding) (z .flips) (z .width) (z .height) (t .tiles) (t .taken)
-  calls-discarded = stands-discarded z t stands
+  calls-discarded = stands-discarded [] z t stands
 
   -- with discarding on, no two stored tiles match, where none did at the start, or at the last reset, when there are none
   pub calls-apart : z .discarding ≡ true → Apart (z .flips) (z .width) (z .height) (t .tiles)
       → Apart (z .flips) (z .width) (z .height) (setTiles end (lastStore s cs))
-  calls-apart = stands-apart z t stands
+  calls-apart = stands-apart [] z t stands
 
   pub first-apart : Apart (z .flips) (z .width) (z .height) (first .tiles) → Apart (z .flips) (z .width) (z .height) (t .tiles)
   first-apart = first-tiles z (Apart (z .flips) (z .width) (z .height)) (apart-none (z .flips) (z .width) (z .height)) first cs

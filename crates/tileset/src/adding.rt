@@ -14,7 +14,7 @@ ghost use Rattle.tileset.specs.Adding.{AddsTile};
 ghost use Rattle.tileset.specs.Inner.{Stores, discardAnswer, Looks};
 
 // The tile goes at the end, where there is room.
-fn append(set: Set, store: &mut [u8], pixels: &[u8]) -> SetAnswer
+pub fn append(set: Set, store: &mut [u8], pixels: &[u8]) -> SetAnswer
     requires { ⌜ Looks set (now store) (now pixels) ⌝ }
     ensures { λ r. ⌜ Stores set (roomIn set (length (now (store .entry)))) (now (store .entry)) (now (pixels .entry)) r (now (store .exit)) ⌝ }
 {
@@ -36,7 +36,7 @@ fn append(set: Set, store: &mut [u8], pixels: &[u8]) -> SetAnswer
 }
 
 // A match is counted, unless the counter is full.
-fn discard(set: Set) -> SetAnswer
+pub fn discard(set: Set) -> SetAnswer
     ensures { λ r. ⌜ r ≡ discardAnswer set ⌝ }
 {
     if set.discarded == 4294967295 {

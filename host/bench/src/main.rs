@@ -2,8 +2,9 @@
 //!
 //! `cargo run --release --offline --bin bench` in host/. For each call and mode it prints the median processor time of
 //! one colour, entry or tile on either side, and the ratio: above 1 the port is the faster. Tiles are of each depth,
-//! sprites of the smallest and the largest size; of a set, one add or one look-up; of a picture, one of its tiles. A
-//! second table has the port alone: `run` on the largest sheets beside `convert` on their pictures.
+//! sprites of the smallest and the largest size; of a set or a title, one add or one look-up; of a picture, one of its
+//! tiles. Two tables more have the port alone: `run` on the largest sheets beside `convert` on their pictures, and a
+//! title's look-up beside the set's over as many tiles.
 
 mod pictures;
 mod sets;
@@ -71,6 +72,7 @@ fn main() {
     let slowest = table.iter().min_by(|a, b| a.ratio().total_cmp(&b.ratio())).expect("the table has lines");
     println!("\nleast ratio: {:.2}, {} in {}", slowest.ratio(), slowest.call, slowest.mode);
     sheets::print_table(&mut random);
+    sets::print_table(&mut random);
 }
 
 fn print_line(line: &Measured) {
@@ -148,9 +150,29 @@ fn measured(
 fn turn_about(items: usize, mut first: impl FnMut(), mut second: impl FnMut()) -> (f64, f64) {
     let times = (times_for_a_run(&mut first), times_for_a_run(&mut second));
     let runs = (0..RUNS).map(|_| (nanoseconds(times.0, &mut first), nanoseconds(times.1, &mut second)));
+    for_one(items, runs)
+}
+
+/// The same for calls of which each takes a run by itself, the second on something that is made for it: making it and
+/// letting it go are not timed.
+fn turn_about_on<T>(
+    items: usize,
+    mut first: impl FnMut(),
+    mut make: impl FnMut() -> T,
+    mut second: impl FnMut(&mut T),
+) -> (f64, f64) {
+    let runs = (0..=RUNS).map(|_| {
+        let mut made = make();
+        (nanoseconds(1, &mut first), nanoseconds(1, &mut || second(&mut made)))
+    });
+    // the first run warms the caches
+    for_one(items, runs.skip(1))
+}
+
+/// The medians of both sides, for one of so many items.
+fn for_one(items: usize, runs: impl Iterator<Item = (f64, f64)>) -> (f64, f64) {
     let (first, second): (Vec<f64>, Vec<f64>) = runs.unzip();
-    let for_one = |times| median(times) / items as f64;
-    (for_one(first), for_one(second))
+    (median(first) / items as f64, median(second) / items as f64)
 }
 
 /// 256 colours, or the four of gb and ws; ngp packs 256 and unpacks four.

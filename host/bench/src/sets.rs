@@ -1,4 +1,5 @@
-//! Adding and looking up, on tiles that are like art and on tiles that are not; and writing and reading a set's bytes.
+//! Adding and looking up, in sets and in titles, on tiles that are like art and on tiles that are not; and writing and
+//! reading a set's bytes.
 
 use std::hint::black_box;
 
@@ -6,10 +7,14 @@ use reading::{MODES, Random, Shape};
 use rumchivoat::Set;
 use superfamiconv::plain;
 
-use crate::{Measured, measured};
+use crate::{Measured, measured, turn_about, turn_about_on};
 
 /// As many tiles as an entry of snes can name.
 const TILES: usize = 1024;
+/// So many of them are a title's common ones.
+const HALF: usize = TILES / 2;
+/// As many as a title begins with.
+const FEW: usize = 8;
 /// Tiles of the same kind that no set has.
 const OTHERS: usize = 64;
 
@@ -79,13 +84,18 @@ fn different_tiles(shape: Shape, kind: Kind, count: usize, random: &mut Random) 
     store.chunks_exact(shape.pixels()).map(<[u8]>::to_vec).collect()
 }
 
-/// A run of each call on each kind, of 8x8 and of 16x16.
-pub fn lines(random: &mut Random) -> impl Iterator<Item = Measured> {
+/// Each kind, of 8x8 and of 16x16.
+fn cases() -> impl Iterator<Item = (Shape, Kind)> {
     let shapes = [8, 16].map(|side| Shape { mode: 0, depth: 4, width: side, height: side });
-    let cases = shapes.into_iter().flat_map(|shape| [Art, Late, Early, Kind::Random].map(|kind| (shape, kind)));
-    cases.flat_map(|(shape, kind)| {
+    shapes.into_iter().flat_map(|shape| [Art, Late, Early, Kind::Random].map(|kind| (shape, kind)))
+}
+
+/// A run of each call on each kind and size.
+pub fn lines(random: &mut Random) -> impl Iterator<Item = Measured> {
+    cases().flat_map(|(shape, kind)| {
         let tiles = different_tiles(shape, kind, TILES + OTHERS, random);
-        [add_all(shape, kind, &tiles), look_up_nothing(shape, kind, &tiles)]
+        let set = [add_all(shape, kind, &tiles), look_up_nothing(shape, kind, &tiles)];
+        set.into_iter().chain([title_add(shape, kind, &tiles), title_look_up(shape, kind, &tiles)])
     })
 }
 
@@ -194,30 +204,109 @@ fn add_all(shape: Shape, kind: Kind, tiles: &[Vec<u8>]) -> Measured {
     )
 }
 
+/// A set of the Rust's with these tiles.
+fn rust_set(shape: Shape, images: &[plain::Image]) -> plain::Tileset {
+    let (_, mut set) = new_sets(shape);
+    for image in images {
+        plain::add(&mut set, image).expect("the image has pixels");
+    }
+    set
+}
+
+/// The port's set of so many tiles.
+fn set_of(shape: Shape, stored: usize) -> Set {
+    Set { stored: stored as u32, ..new_sets(shape).0 }
+}
+
 /// Looks 64 tiles up in a set of 1,024, none of which matches one.
 fn look_up_nothing(shape: Shape, kind: Kind, tiles: &[Vec<u8>]) -> Measured {
-    let (mut port, mut rust) = new_sets(shape);
-    let mut store = vec![0; TILES * shape.pixels()];
-    let images = images(shape, tiles);
-    let (others, other_images) = (&tiles[TILES..], &images[TILES..]);
-    for (tile, image) in tiles[..TILES].iter().zip(&images) {
-        port.add(&mut store, tile).expect("there is room");
-        plain::add(&mut rust, image).expect("the image has pixels");
+    let (port, rust) = (set_finds_nothing(shape, tiles), rust_finds_nothing(shape, tiles));
+    measured("set look_up", case_text(shape, kind), OTHERS, port, rust)
+}
+
+/// The same in a title of 512 common tiles and 512 of its own. The Rust has no titles: it looks them up in a set of all
+/// 1,024, which is the same search.
+fn title_look_up(shape: Shape, kind: Kind, tiles: &[Vec<u8>]) -> Measured {
+    let (port, rust) = (title_finds_nothing(shape, tiles), rust_finds_nothing(shape, tiles));
+    measured("title look_up", case_text(shape, kind), OTHERS, port, rust)
+}
+
+/// The look-ups of the last 64 tiles, in a set of the others.
+fn set_finds_nothing(shape: Shape, tiles: &[Vec<u8>]) -> impl FnMut() {
+    let (stored, others) = tiles.split_at(tiles.len() - OTHERS);
+    let (store, set) = (stored.concat(), set_of(shape, stored.len()));
+    move || {
+        for tile in black_box(others) {
+            assert_eq!(set.look_up(black_box(&store), tile), Ok(None));
+        }
     }
-    let mode = plain::mode(shape.mode);
-    measured(
-        "set look_up",
-        case_text(shape, kind),
-        OTHERS,
+}
+
+/// The same look-ups in a title: half of the tiles are common, half its own.
+fn title_finds_nothing(shape: Shape, tiles: &[Vec<u8>]) -> impl FnMut() {
+    let (stored, others) = tiles.split_at(tiles.len() - OTHERS);
+    let (shared, own) = stored.split_at(stored.len() / 2);
+    let (common, store, count) = (shared.concat(), own.concat(), shared.len() as u32);
+    let set = set_of(shape, own.len());
+    move || {
+        for tile in black_box(others) {
+            let held = set.title_look_up(count, black_box(&common), black_box(&store), tile);
+            assert_eq!(held, Ok(None));
+        }
+    }
+}
+
+/// The same look-ups in a set of the Rust's.
+fn rust_finds_nothing(shape: Shape, tiles: &[Vec<u8>]) -> impl FnMut() {
+    let images = images(shape, tiles);
+    let count = images.len() - OTHERS;
+    let (set, mode) = (rust_set(shape, &images[..count]), plain::mode(shape.mode));
+    move || {
+        for image in black_box(&images[count..]) {
+            assert_eq!(plain::look_up(black_box(&set), mode, shape.depth, image), None);
+        }
+    }
+}
+
+/// Adds 512 tiles to a title that has as many in common and none of its own, flips and discarding on; none matches. The
+/// Rust has no titles: it adds them to a set of the common ones, which is the same search. That set is made for each
+/// run, and the making is not timed.
+fn title_add(shape: Shape, kind: Kind, tiles: &[Vec<u8>]) -> Measured {
+    let (common, own) = (tiles[..HALF].concat(), &tiles[HALF..TILES]);
+    let images = images(shape, &tiles[..TILES]);
+    let mut store = vec![0; HALF * shape.pixels()];
+    let (port, rust) = turn_about_on(
+        HALF,
         || {
-            for tile in black_box(others) {
-                assert_eq!(port.look_up(black_box(&store), tile), Ok(None));
+            let mut set = set_of(shape, 0);
+            for tile in black_box(own) {
+                set.title_add(HALF as u32, black_box(&common), &mut store, tile).expect("there is room");
             }
+            assert_eq!(black_box(set).stored as usize, HALF);
         },
-        || {
-            for image in black_box(other_images) {
-                assert_eq!(plain::look_up(black_box(&rust), mode, shape.depth, image), None);
+        || rust_set(shape, &images[..HALF]),
+        |set| {
+            for tile in black_box(&images[HALF..]) {
+                plain::add(set, tile).expect("the image has pixels");
             }
+            assert_eq!(plain::counts(black_box(set)).0 as usize, TILES);
         },
-    )
+    );
+    Measured { call: "title add", mode: case_text(shape, kind), items: HALF, port, rust }
+}
+
+/// A look-up in a title beside one in a set of as many tiles, many and few. Both are the port's: the Rust has no titles.
+pub fn print_table(random: &mut Random) {
+    println!(
+        "\nthe port alone, no Rust: look_up in a title, half of its tiles common, and in a set of as many; ns for one\n"
+    );
+    println!("{:<37} {:>5} {:>9} {:>9} {:>11}", "tiles", "items", "title", "set", "title/set");
+    for count in [TILES, FEW] {
+        for (shape, kind) in cases() {
+            let tiles = different_tiles(shape, kind, count + OTHERS, random);
+            let (title, set) = turn_about(OTHERS, title_finds_nothing(shape, &tiles), set_finds_nothing(shape, &tiles));
+            let case = format!("{count} {}", case_text(shape, kind));
+            println!("{case:<37} {OTHERS:>5} {title:>9.3} {set:>9.3} {:>11.2}", title / set);
+        }
+    }
 }

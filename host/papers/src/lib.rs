@@ -260,6 +260,8 @@ pub fn exports() -> (Vec<Export>, BTreeMap<String, Place>) {
     let mut found = Vec::new();
     for part in text.split("pub extern \"C\" fn rumchivoat_").skip(1) {
         let (name, rest) = part.split_once('(').expect("an export has parameters");
+        // lifetimes are no part of the name
+        let name = name.split('<').next().expect("a split has a first part");
         let (head, _) = rest.split_once("\n{").expect("an export has a body");
         let (parameters, promise) = head.split_once("ensures").unwrap_or((head, ""));
         assert!(!head.contains("requires"), "rumchivoat_{name} asks something of its caller");

@@ -8,14 +8,12 @@ use papers::{Place, exports, laws, modules, reached, read, rows, scope, ticked};
 const PROMISES: &str = "docs/PROMISES.md";
 const THEOREMS: &str = "crates/promises/proofs/OneResult.antt";
 
-/// The headings of the tables of laws: a law's row ends with the names of its theorems.
-const LAWS: [&str; 5] = [
-    "## Laws over these definitions",
-    "## Laws of flips and sets",
-    "## Laws of pictures",
-    "## Laws of the program",
-    "## Laws of every call",
-];
+/// The rows of every table of laws, whose heading begins so: a law's row ends with the names of its theorems.
+fn law_rows(text: &str) -> Vec<Vec<String>> {
+    let headings: Vec<&str> = text.lines().filter(|line| line.starts_with("## Laws ")).collect();
+    assert!(headings.len() >= 6, "{PROMISES} has lost tables of laws: {headings:?}");
+    headings.into_iter().flat_map(|heading| rows(text, heading)).collect()
+}
 
 #[test]
 fn every_export_has_its_theorems() {
@@ -50,7 +48,7 @@ fn every_law_that_is_named_is_there() {
             said && part == "proofs" && module.declarations.iter().any(|d| d.place.name == law && d.public)
         })
     };
-    let named = rows(&text, "## Calls").into_iter().chain(LAWS.iter().flat_map(|heading| rows(&text, heading)));
+    let named = rows(&text, "## Calls").into_iter().chain(law_rows(&text));
     let missing: Vec<String> = named
         .flat_map(|row| laws(row.last().expect("a cell")))
         .filter(|(law, floors)| !is_there(law, floors))
@@ -69,7 +67,7 @@ fn trusted() -> BTreeSet<Place> {
     }
     let text = read(PROMISES);
     let named: Vec<(String, Vec<String>)> =
-        LAWS.iter().flat_map(|h| rows(&text, h)).flat_map(|row| laws(row.last().expect("a cell"))).collect();
+        law_rows(&text).iter().flat_map(|row| laws(row.last().expect("a cell"))).collect();
     for ((floor, part, _), module) in &modules {
         let is_named = |name: &String| {
             named.iter().any(|(law, floors)| law == name && (floors.is_empty() || floors.contains(floor)))

@@ -13,6 +13,7 @@ mod random;
 mod sets;
 mod sheets;
 mod tiles;
+mod titles;
 
 pub use channel::{reduce_channel, scale_up};
 pub use colors::{pack_colors, packed_length, unpack_colors, unpacked_count};
@@ -26,6 +27,7 @@ pub use sets::{
 };
 pub use sheets::{KEYS, Text, run};
 pub use tiles::{Shape, native_shapes, pack_tile, unpack_tile};
+pub use titles::{Held, title_add, title_look_up};
 
 /// A value, or the number of a refusal.
 pub type Answer<T> = Result<T, u32>;

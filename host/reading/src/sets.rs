@@ -79,7 +79,7 @@ fn room(set: Set, store: &[u8]) -> usize {
 }
 
 /// Refusals 1, 3, 4 and 6: "set state counts more tiles than its room".
-fn held_row(set: Set, store: &[u8]) -> Answer<&'static Row> {
+pub(crate) fn held_row(set: Set, store: &[u8]) -> Answer<&'static Row> {
     let row = set_row(set.shape)?;
     if set.stored as usize > room(set, store) { Err(6) } else { Ok(row) }
 }

@@ -135,7 +135,17 @@ fn entries() {
     }
 }
 
-/// A run of adds and look-ups in sets of the same settings, of tiles mirrored and made their own mirror images.
+/// A tile made of the one before: mirrored, made its own mirror image, or, every fourth, any other.
+fn next_tile(shape: Shape, tile: &[u8], turn: usize, random: &mut Random) -> Vec<u8> {
+    let image = reading::flipped(tile, shape.width, random.flag(), random.flag());
+    match turn % 4 {
+        0 => random.bytes(shape.pixels()),
+        1 => tile.iter().zip(&image).map(|(&one, &other)| one.max(other)).collect(),
+        _ => image,
+    }
+}
+
+/// A run of adds and look-ups in sets of the same settings.
 fn same_run(shape: Shape, flips: bool, discarding: bool, random: &mut Random) {
     let Shape { mode, depth, width, height } = shape;
     let rust = plain::mode(mode);
@@ -144,13 +154,7 @@ fn same_run(shape: Shape, flips: bool, discarding: bool, random: &mut Random) {
     let mut set = reading::set_new(shape, flips, discarding, 0).unwrap();
     let mut tile = random.pixels(depth, shape.pixels());
     for turn in 0..20 {
-        let image = reading::flipped(&tile, width, random.flag(), random.flag());
-        let symmetric = tile.iter().zip(&image).map(|(&one, &other)| one.max(other)).collect();
-        tile = match turn % 4 {
-            0 => random.bytes(shape.pixels()),
-            1 => symmetric,
-            _ => image,
-        };
+        tile = next_tile(shape, &tile, turn, random);
         let given = plain::image(width, height, &tile);
         let found = reading::set_look_up(set, &store, &tile).unwrap();
         let found = found.map(|place| (place.place, place.flip_h, place.flip_v));
@@ -190,6 +194,49 @@ fn sets() {
     for shape in set_shapes() {
         for (flips, discarding) in [(false, false), (false, true), (true, false), (true, true)] {
             same_run(shape, flips, discarding, &mut random);
+        }
+    }
+}
+
+/// The tiles of a set of the Rust's that stores all of them, as a title: the first so many are common, and the others its
+/// own. It finds what the Rust finds among them all.
+fn same_title(shape: Shape, flips: bool, random: &mut Random) {
+    let Shape { mode, depth, width, height } = shape;
+    let rust = plain::mode(mode);
+    let mut theirs = plain::tileset(rust, depth, width, height, flips, false, 0);
+    let mut tiles = vec![random.pixels(depth, shape.pixels())];
+    for turn in 1..12 {
+        tiles.push(next_tile(shape, &tiles[turn - 1], turn, random));
+    }
+    for tile in &tiles[..8] {
+        plain::add(&mut theirs, &plain::image(width, height, tile)).unwrap();
+    }
+    let store = plain::tile_pixels(&theirs);
+    for common_count in 0..=8 {
+        let (common, own) = store.split_at(common_count as usize * shape.pixels());
+        let set = Set { stored: 8 - common_count, ..reading::set_new(shape, flips, true, 0).unwrap() };
+        for tile in &tiles {
+            let held = reading::title_look_up(set, common_count, common, own, tile).unwrap();
+            let found = held.map(|held| (held.place.place, held.place.flip_h, held.place.flip_v));
+            let due = plain::look_up(&theirs, rust, depth, &plain::image(width, height, tile));
+            assert_eq!(found, due, "{common_count} common, {set:?} {tile:?}");
+            let Some(held) = held else { continue };
+            let part = &if held.common { common } else { own }[held.at..][..held.len];
+            assert_eq!(part, &store[held.place.place as usize * shape.pixels()..][..shape.pixels()]);
+            assert_eq!(held.common, held.place.place < common_count);
+        }
+    }
+}
+
+#[test]
+fn titles() {
+    if absent() {
+        return;
+    }
+    let mut random = Random::new(4);
+    for shape in set_shapes() {
+        for flips in [false, true] {
+            same_title(shape, flips, &mut random);
         }
     }
 }

@@ -98,6 +98,9 @@ fn sets() -> impl Iterator<Item = Set> {
     })
 }
 
+/// Counts of common tiles, and the lengths of their stores.
+const COMMON: [(u32, usize); 6] = [(0, 0), (1, 63), (1, 64), (2, 512), (65_535, 64), (u32::MAX, 512)];
+
 #[test]
 fn refused_sets_are_as_they_came() {
     for set in sets() {
@@ -108,6 +111,10 @@ fn refused_sets_are_as_they_came() {
             let (mut store, pixels) = (vec![0; 256], vec![0; length]);
             assert!(set_add(set, &mut store[..length.min(256)], &pixels).is_as_it_came_if_refused(set));
             assert!(set_add(set, &mut store, &pixels).is_as_it_came_if_refused(set));
+            for (count, wide) in COMMON {
+                let added = title_add(set, count, &vec![0; wide], &mut store, &pixels);
+                assert!(added.is_as_it_came_if_refused(set));
+            }
             let read = set_read(mode, depth, width, height, flips, &pixels, &mut store);
             assert!(read.is_as_it_came_if_refused(Set::default()));
         }
@@ -120,7 +127,11 @@ fn refused_places_and_numbers_of_sets_are_empty() {
         let store = [[0; 64], [255; 64], [1; 64], [2; 64]].concat();
         for length in [0, 63, 64, 65, 127, 256] {
             for pixel in 0..3 {
-                assert!(set_look_up(set, &store, &vec![pixel; length]).is_bare_unless_found());
+                let pixels = vec![pixel; length];
+                assert!(set_look_up(set, &store, &pixels).is_bare_unless_found());
+                for (count, wide) in COMMON {
+                    assert!(title_look_up(set, count, &vec![3; wide], &store, &pixels).is_bare_unless_found());
+                }
             }
             assert!(set_write(set, &store[..length], &mut [0; 64]).is_bare_if_refused());
             assert!(set_write(set, &store[..length], &mut []).is_bare_if_refused());

@@ -13,7 +13,7 @@ fn shape_of(set: Set) -> Shape {
     Shape { mode, depth, width, height }
 }
 
-fn as_read(set: Set) -> reading::Set {
+pub fn as_read(set: Set) -> reading::Set {
     let Set { flips, discarding, limit, stored, discarded, .. } = set;
     reading::Set { shape: shape_of(set), flips, discarding, limit, stored, discarded }
 }
@@ -29,7 +29,7 @@ fn same_new(shape: Shape, flips: bool, discarding: bool, limit: u32) -> u64 {
 }
 
 /// The set after a call that was answered so; a refused one is as it was.
-fn same_set(case: &str, before: Set, after: Set, ours: Result<(), Refusal>, read: Result<reading::Set, u32>) {
+pub fn same_set(case: &str, before: Set, after: Set, ours: Result<(), Refusal>, read: Result<reading::Set, u32>) {
     assert_eq!(told(ours), read.map(|_| ()), "{case} {before:?}");
     assert_eq!(as_read(after), read.unwrap_or(as_read(before)), "{case} {before:?}");
 }
@@ -297,7 +297,7 @@ fn add_to(mut set: Set, store: &mut [u8], pixels: &[u8]) -> Result<(), Refusal> 
 }
 
 /// The set with a mode, depth, width and count that call for these refusals.
-fn damaged(set: Set, refusals: &[u32]) -> Set {
+pub fn damaged(set: Set, refusals: &[u32]) -> Set {
     Set {
         mode: if refusals.contains(&1) { 16 } else { set.mode },
         depth: if refusals.contains(&3) { 3 } else { set.depth },
