@@ -1,10 +1,11 @@
 //! A station in small: the interface is checked, a picture is converted, redrawn and compared, a set of tiles is
-//! written, and a refusal is told in words.
+//! written, twin titles share a tile, and a refusal is told in words.
 
 use std::error::Error;
 
 use rumchivoat::{
-    Entry, INTERFACE, MapSize, Mode, SetSettings, Settings, TileSet, TileSize, check_interface, pack_colors_to_vec,
+    Entry, INTERFACE, MapSize, Mode, SetSettings, Settings, TileSet, TileSize, Title, check_interface,
+    pack_colors_to_vec,
 };
 
 const SIZE: MapSize = MapSize { columns: 4, rows: 4 };
@@ -51,17 +52,46 @@ fn convert(mode: Mode, depth: u32, pixels: &[u8]) -> Result<(), Box<dyn Error>> 
     Ok(())
 }
 
-/// Adds the picture's quarters to a set of 16x16 tiles, and writes it.
-fn collect(pixels: &[u8]) -> Result<(), Box<dyn Error>> {
-    let settings = SetSettings::new(Mode::Snes, 4, TileSize { width: 16, height: 16 }).flips().discarding();
-    let mut set = TileSet::new(settings, vec![0; settings.store_len(4)?])?;
-    for (left, top) in [(0, 0), (16, 0), (0, 16), (16, 16)] {
+/// The picture's quarters, tiles of 16x16.
+fn quarters(pixels: &[u8]) -> [Vec<u8>; 4] {
+    [(0, 0), (16, 0), (0, 16), (16, 16)].map(|(left, top)| {
         let rows = pixels.chunks_exact(SIDE).skip(top).take(16);
-        let quarter: Vec<u8> = rows.flat_map(|row| row.iter().skip(left).take(16)).copied().collect();
+        rows.flat_map(|row| row.iter().skip(left).take(16)).copied().collect()
+    })
+}
+
+/// Sets of such tiles.
+fn quarter_sets() -> SetSettings {
+    SetSettings::new(Mode::Snes, 4, TileSize { width: 16, height: 16 }).flips().discarding()
+}
+
+/// Adds the picture's quarters to a set, and writes it.
+fn collect(pixels: &[u8]) -> Result<(), Box<dyn Error>> {
+    let settings = quarter_sets();
+    let mut set = TileSet::new(settings, vec![0; settings.store_len(4)?])?;
+    for quarter in quarters(pixels) {
         set.add(&quarter)?;
     }
     let bytes = set.write_to_vec()?;
     println!("snes  set      16x16 tiles: {} stored, {} discarded; {} bytes", set.len(), set.discarded(), bytes.len());
+    Ok(())
+}
+
+/// Twin titles have one quarter in common, and each a plain tile of its own: the other quarters are found as mirror
+/// images of the common one, and neither title writes it.
+fn share(pixels: &[u8]) -> Result<(), Box<dyn Error>> {
+    let (settings, [common, others @ ..]) = (quarter_sets(), quarters(pixels));
+    let mut red = Title::new(settings, 1, &common, vec![0; settings.store_len(4)?])?;
+    let mut blue = red.clone();
+    for (title, color) in [(&mut red, 1), (&mut blue, 2)] {
+        for tile in others.iter().chain([&vec![color; common.len()]]) {
+            title.add(tile)?;
+        }
+    }
+    for (name, title) in [("red", red), ("blue", blue)] {
+        let (own, common) = (title.own(), title.common_count());
+        println!("snes  title    {name}: {common} common, {} stored, {} discarded", own.len(), own.discarded());
+    }
     Ok(())
 }
 
@@ -83,6 +113,7 @@ fn main() -> Result<(), Box<dyn Error>> {
         convert(mode, depth, &pixels)?;
     }
     collect(&pixels)?;
+    share(&pixels)?;
     refuse();
     Ok(())
 }

@@ -113,7 +113,7 @@ stands-start seen z s =
     record { same = refl; tiles = refl; count = count-tiles z s; sum = omega arith; wide = λ lt. absurd (not-suc-le-zero lt) }
 
 -- what holds of both holds of the one
-pub either-one : {A : Type 0} (P : A → Type 0) (n : ℕ) (a b : A) → P a → P b → P (unless n a b)
+either-one : {A : Type 0} (P : A → Type 0) (n : ℕ) (a b : A) → P a → P b → P (unless n a b)
 either-one P zero a b p q = p
 either-one P (suc n) a b p q = q
 
