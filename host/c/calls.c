@@ -125,6 +125,12 @@ static bool is_set(rumchivoat_set a, rumchivoat_set b) {
         && a.discarding == b.discarding && a.limit == b.limit && a.stored == b.stored && a.discarded == b.discarded;
 }
 
+static bool is_run(rumchivoat_strip_run a, rumchivoat_strip_run b) {
+    return a.mode == b.mode && a.depth == b.depth && a.flip == b.flip && a.discard == b.discard && a.limit == b.limit
+        && a.palette == b.palette && a.columns == b.columns && a.rows == b.rows && a.taken == b.taken
+        && a.tiles == b.tiles && a.discarded == b.discarded;
+}
+
 static bool is_picture(rumchivoat_picture p, uint32_t refusal, uint32_t tiles, uint32_t discarded, size_t tile_bytes,
                        size_t map_bytes) {
     return p.refusal == refusal && p.tiles == tiles && p.discarded == discarded && p.tile_bytes == tile_bytes
@@ -716,6 +722,149 @@ static void redraw(void) {
     no_bytes(call, RUMCHIVOAT_REFUSED_OUTPUT, rumchivoat_redraw(SNES, 2, 2, 1, t, 16, m, 4, out, 127));
 }
 
+/* ---- pictures in strips */
+
+/* The discard counter's last number. */
+static const uint32_t most_discarded = 4294967295u;
+
+/* A run of 2 x 2 tiles, flips and discarding on. */
+static rumchivoat_strip_run run_of(uint32_t taken, uint32_t tiles, uint32_t discarded) {
+    rumchivoat_strip_run run = {SNES, 2, true, true, 0, 0, 2, 2, 0, 0, 0};
+    run.taken = taken;
+    run.tiles = tiles;
+    run.discarded = discarded;
+    return run;
+}
+
+/* The same after its first strip, which was begin_picture's. */
+static rumchivoat_strip_run run_half(void) {
+    return run_of(1, 1, 1);
+}
+
+/* What the first strip left in the buffers, and in the pixels the second: the first one upside down. */
+static void begin_strip(void) {
+    begin();
+    lent.pixels[7 * 16] = lent.pixels[7 * 16 + 15] = 1;
+    memcpy(lent.out, two_tiles, 16);
+    memcpy(lent.map, two_entries, 4);
+    keep();
+}
+
+static void same_run(const char *call, uint32_t number, rumchivoat_strip_run_answer a, rumchivoat_strip_run due_run) {
+    tell(call, number, a.refusal == number && is_run(a.run, due_run));
+}
+
+static void strip_start(void) {
+    static const char call[] = "rumchivoat_strip_start";
+    rumchivoat_strip_run none = {0, 0, false, false, 0, 0, 0, 0, 0, 0, 0}, due_run = run_of(0, 0, 0);
+    due_run.limit = 9;
+    due_run.palette = 7;
+    begin();
+    same_run(call, 0, rumchivoat_strip_start(SNES, 2, true, true, 9, 7, 2, 2), due_run);
+    same_run(call, RUMCHIVOAT_REFUSED_MODE, rumchivoat_strip_start(NO_MODE, 2, true, true, 9, 7, 2, 2), none);
+    same_run(call, RUMCHIVOAT_REFUSED_PCE_SPRITE, rumchivoat_strip_start(SPRITE, 4, false, true, 9, 0, 2, 2), none);
+    same_run(call, RUMCHIVOAT_REFUSED_DEPTH, rumchivoat_strip_start(SNES, 3, true, true, 9, 7, 2, 2), none);
+    same_run(call, RUMCHIVOAT_REFUSED_SIZE, rumchivoat_strip_start(SNES, 2, true, true, 9, 7, 65, 2), none);
+    same_run(call, RUMCHIVOAT_REFUSED_FLIPS, rumchivoat_strip_start(GB, 2, true, true, 9, 0, 2, 2), none);
+    same_run(call, RUMCHIVOAT_REFUSED_ENTRY_PALETTE, rumchivoat_strip_start(SNES, 2, true, true, 9, 8, 2, 2), none);
+}
+
+/* A strip of so many of the lent pixels, refused with this number, the record as it came. */
+static void no_strip(uint32_t number, rumchivoat_strip_run came, size_t pixels_len, size_t tiles_len, size_t map_len) {
+    rumchivoat_strip_run run = came;
+    rumchivoat_picture a =
+        rumchivoat_strip_take(&run, lent.pixels, pixels_len, lent.out, tiles_len, lent.map, map_len);
+    tell("rumchivoat_strip_take", number, is_picture(a, number, 0, 0, 0, 0) && is_run(run, came));
+}
+
+static void strip_take(void) {
+    static const char call[] = "rumchivoat_strip_take";
+    static const uint8_t upside_down[4] = {0x00, 0x80, 0x00, 0xc0};
+    rumchivoat_strip_run run = run_of(0, 0, 0);
+    rumchivoat_picture done;
+    size_t whole_map = RUMCHIVOAT_MAP_BYTES(SNES, 2, 2);
+    begin_picture();
+    done = rumchivoat_strip_take(&run, lent.pixels, RUMCHIVOAT_STRIP_PIXELS(2, 1), lent.out, 17, lent.map, 9);
+    memcpy(due.out, two_tiles, 16);
+    memcpy(due.map, two_entries, 4);
+    tell(call, 0, is_picture(done, 0, 1, 1, 16, 4) && is_run(run, run_half()));
+    begin_strip();
+    done = rumchivoat_strip_take(&run, lent.pixels, 128, lent.out, 16, lent.map, whole_map);
+    memcpy(due.map + 4, upside_down, 4);
+    tell(call, 0, is_picture(done, 0, 1, 3, 16, 8) && is_run(run, run_of(2, 1, 3)));
+    /* after the last row one pixel is too many, and none is no strip */
+    no_strip(RUMCHIVOAT_REFUSED_ROWS, run, 1, 16, whole_map);
+    no_strip(RUMCHIVOAT_REFUSED_LENGTH, run, 0, 16, whole_map);
+    begin_strip();
+    run = run_half();
+    run.mode = NO_MODE;
+    no_strip(RUMCHIVOAT_REFUSED_MODE, run, 128, 48, 8);
+    run = run_half();
+    run.mode = SPRITE;
+    run.depth = 4;
+    run.flip = false;
+    no_strip(RUMCHIVOAT_REFUSED_PCE_SPRITE, run, 128, 48, 8);
+    run = run_half();
+    run.depth = 3;
+    no_strip(RUMCHIVOAT_REFUSED_DEPTH, run, 128, 48, 8);
+    run = run_half();
+    run.rows = 65;
+    no_strip(RUMCHIVOAT_REFUSED_SIZE, run, 128, 48, 8);
+    run = run_half();
+    run.mode = GB;
+    no_strip(RUMCHIVOAT_REFUSED_FLIPS, run, 128, 48, 8);
+    /* more tiles than the buffer has, than the limit allows; more rows than the picture has */
+    no_strip(RUMCHIVOAT_REFUSED_COUNT, run_half(), 128, 15, 8);
+    run = run_of(1, 2, 0);
+    run.limit = 1;
+    no_strip(RUMCHIVOAT_REFUSED_COUNT, run, 128, 48, 8);
+    no_strip(RUMCHIVOAT_REFUSED_COUNT, run_of(3, 1, 1), 128, 48, 8);
+    no_strip(RUMCHIVOAT_REFUSED_ROWS, run_half(), 256, 48, 8);
+    no_strip(RUMCHIVOAT_REFUSED_LENGTH, run_half(), 127, 48, 8);
+    no_strip(RUMCHIVOAT_REFUSED_LENGTH, run_half(), 0, 48, 8);
+    run = run_half();
+    run.palette = 8;
+    no_strip(RUMCHIVOAT_REFUSED_ENTRY_PALETTE, run, 128, 48, 8);
+    no_strip(RUMCHIVOAT_REFUSED_OUTPUT, run_half(), 128, 48, 7);
+    /* without flips both tiles are to be stored: beyond the limit, then beyond the tile buffer */
+    run = run_half();
+    run.flip = false;
+    no_strip(RUMCHIVOAT_REFUSED_ROOM, run, 128, 47, 8);
+    run.limit = 2;
+    no_strip(RUMCHIVOAT_REFUSED_ROOM, run, 128, 48, 8);
+    no_strip(RUMCHIVOAT_REFUSED_DISCARDED, run_of(1, 1, most_discarded - 1), 128, 48, 8);
+}
+
+static void strip_end(void) {
+    static const char call[] = "rumchivoat_strip_end";
+    rumchivoat_strip_run run = run_of(2, 1, 3);
+    begin();
+    tell(call, 0, is_picture(rumchivoat_strip_end(run), 0, 1, 3, 16, RUMCHIVOAT_MAP_BYTES(SNES, 2, 2)));
+    run.mode = NO_MODE;
+    no_picture(call, RUMCHIVOAT_REFUSED_MODE, rumchivoat_strip_end(run));
+    run.mode = SPRITE;
+    no_picture(call, RUMCHIVOAT_REFUSED_PCE_SPRITE, rumchivoat_strip_end(run));
+    run = run_of(2, 1, 3);
+    run.depth = 3;
+    no_picture(call, RUMCHIVOAT_REFUSED_DEPTH, rumchivoat_strip_end(run));
+    run = run_of(2, 1, 3);
+    run.columns = 0;
+    no_picture(call, RUMCHIVOAT_REFUSED_SIZE, rumchivoat_strip_end(run));
+    run = run_of(2, 1, 3);
+    run.mode = GB;
+    no_picture(call, RUMCHIVOAT_REFUSED_FLIPS, rumchivoat_strip_end(run));
+    /* more tiles than an entry can name, than the limit allows; more rows than the picture has */
+    no_picture(call, RUMCHIVOAT_REFUSED_COUNT, rumchivoat_strip_end(run_of(2, 1025, 3)));
+    run = run_of(2, 2, 3);
+    run.limit = 1;
+    no_picture(call, RUMCHIVOAT_REFUSED_COUNT, rumchivoat_strip_end(run));
+    no_picture(call, RUMCHIVOAT_REFUSED_COUNT, rumchivoat_strip_end(run_of(3, 1, 3)));
+    no_picture(call, RUMCHIVOAT_REFUSED_ROWS, rumchivoat_strip_end(run_half()));
+    run = run_of(2, 1, 3);
+    run.palette = 8;
+    no_picture(call, RUMCHIVOAT_REFUSED_ENTRY_PALETTE, rumchivoat_strip_end(run));
+}
+
 /* ---- the program on slices */
 
 /* Puts a sheet into the input, its lines and pixels of 0, and answers its length. */
@@ -836,6 +985,37 @@ static void cured_pictures(void) {
     tell("rumchivoat_redraw", 0, is_written(w, 0, 128));
 }
 
+/* The strip that was past the last row, of one row now; the room for its tiles; the counter that reaches its end; and
+ * the end that was asked for too early. */
+static void cured_strips(void) {
+    static const char call[] = "rumchivoat_strip_take";
+    rumchivoat_strip_run run = run_half(), due_run;
+    rumchivoat_picture done;
+    begin_strip();
+    run.discarded = most_discarded - 2;
+    done = rumchivoat_strip_take(&run, lent.pixels, 128, lent.out, 48, lent.map, 8);
+    due.map[4] = due.map[6] = 0x00;
+    due.map[5] = 0x80;
+    due.map[7] = 0xc0;
+    tell(call, 0, is_picture(done, 0, 1, most_discarded, 16, 8) && is_run(run, run_of(2, 1, most_discarded)));
+    run = run_half();
+    run.flip = false;
+    run.limit = 3;
+    due_run = run;
+    done = rumchivoat_strip_take(&run, lent.pixels, 128, lent.out, 48, lent.map, 8);
+    memset(due.out + 16, 0, 32);
+    /* the last row of both tiles, in its first plane */
+    due.out[16 + 14] = 0x80;
+    due.out[32 + 14] = 0x01;
+    due.map[4] = 1;
+    due.map[6] = 2;
+    due.map[5] = due.map[7] = 0x00;
+    due_run.taken = 2;
+    due_run.tiles = 3;
+    tell(call, 0, is_picture(done, 0, 3, 1, 48, 8) && is_run(run, due_run));
+    tell("rumchivoat_strip_end", 0, is_picture(rumchivoat_strip_end(run), 0, 3, 1, 48, 8));
+}
+
 static void cured_sheet(void) {
     static const char lines[] = "mode=snes\ndepth=2\nflip=1\ndiscard=1\nlimit=1\npalette=0\ncolumns=2\nrows=1\n";
     size_t length = put_sheet(lines, 128);
@@ -848,6 +1028,7 @@ static void cured_sheet(void) {
 
 static uint8_t all_pixels[RUMCHIVOAT_PICTURE_PIXELS_MOST], all_tiles[RUMCHIVOAT_PICTURE_TILE_BYTES_MOST];
 static uint8_t all_map[RUMCHIVOAT_MAP_BYTES_MOST];
+static uint8_t strip_tiles[RUMCHIVOAT_PICTURE_TILE_BYTES_MOST], strip_map[RUMCHIVOAT_MAP_BYTES_MOST];
 static uint8_t sheet[RUMCHIVOAT_SHEET_MOST], text[RUMCHIVOAT_TEXT_MOST];
 
 static void draw_different(uint8_t *pixels, uint32_t columns, uint32_t rows) {
@@ -891,12 +1072,25 @@ static void takes(const char *what, void (*job)(void), size_t most) {
     stated("", took <= most);
 }
 
-static rumchivoat_picture largest;
+static rumchivoat_picture largest, in_strips;
 static rumchivoat_written drawn, longest;
 
 static void convert_largest(void) {
     largest = rumchivoat_convert(PCE, 4, false, true, 0, 0, 64, 64, all_pixels, sizeof all_pixels, all_tiles,
                                  sizeof all_tiles, all_map, sizeof all_map);
+}
+
+/* The first 63 rows at once, so that the last finds its tiles among nearly all. */
+static void strips_largest(void) {
+    rumchivoat_strip_run run = rumchivoat_strip_start(PCE, 4, false, true, 0, 0, 64, 64).run;
+    size_t first = RUMCHIVOAT_STRIP_PIXELS(64, 63), last = RUMCHIVOAT_STRIP_PIXELS(64, 1);
+    rumchivoat_strip_take(&run, all_pixels, first, strip_tiles, sizeof strip_tiles, strip_map, sizeof strip_map);
+    rumchivoat_strip_take(&run, all_pixels + first, last, strip_tiles, sizeof strip_tiles, strip_map, sizeof strip_map);
+    in_strips = rumchivoat_strip_end(run);
+}
+
+static bool strips_are_the_whole(void) {
+    return memcmp(strip_tiles, all_tiles, sizeof all_tiles) == 0 && memcmp(strip_map, all_map, sizeof all_map) == 0;
 }
 
 static void redraw_largest(void) {
@@ -916,6 +1110,9 @@ static void figures(void) {
     takes("rumchivoat_convert", convert_largest, RUMCHIVOAT_STACK_CONVERT);
     stated("the largest picture is", is_picture(largest, 0, 4096, 0, RUMCHIVOAT_PICTURE_TILE_BYTES(4, 64, 64),
                                                 RUMCHIVOAT_MAP_BYTES(PCE, 64, 64)));
+    takes("rumchivoat_strip_take", strips_largest, RUMCHIVOAT_STACK_STRIP);
+    stated("the largest picture in strips is",
+           is_picture(in_strips, 0, 4096, 0, sizeof all_tiles, sizeof all_map) && strips_are_the_whole());
     takes("rumchivoat_redraw", redraw_largest, RUMCHIVOAT_STACK_OTHERS);
     stated("the largest redraw is", is_written(drawn, 0, RUMCHIVOAT_PICTURE_PIXELS(64, 64)));
     takes("rumchivoat_run", run_longest, RUMCHIVOAT_STACK_RUN);
@@ -943,12 +1140,16 @@ static void every_call(void) {
     title_add();
     numbers();
     convert();
+    strip_start();
+    strip_take();
+    strip_end();
     redraw();
     run();
     cured_tiles();
     cured_sets();
     cured_titles();
     cured_pictures();
+    cured_strips();
     cured_sheet();
 }
 

@@ -7,8 +7,9 @@
  * run writes its line. A call that is done leaves the bytes after the written length as they were.
  *
  * What the caller owes: a lent slice is a pointer, not null even where the length is 0, and so many bytes behind it; a
- * slice that is written overlaps no other slice of the call; a bool is 0 or 1. No call allocates, keeps a pointer,
- * reads or writes anything but what it was lent, or waits: calls on different buffers may run side by side.
+ * slice that is written overlaps no other slice of the call; a lent record is a pointer to one, which overlaps no slice;
+ * a bool is 0 or 1, in a record too. No call allocates, keeps a pointer, reads or writes anything but what it was lent,
+ * or waits: calls on different buffers may run side by side.
  *
  * Stack: each call states how many bytes it takes at most, RUMCHIVOAT_STACK_.. below. On a thread with less the system
  * ends the process. */
@@ -22,7 +23,7 @@
 #include <stdint.h>
 
 /* The number of the interface that this header is about. Compare it with rumchivoat_interface() of the archive. */
-#define RUMCHIVOAT_INTERFACE 4
+#define RUMCHIVOAT_INTERFACE 5
 
 /* ---- the sixteen modes */
 
@@ -53,8 +54,11 @@
 #define RUMCHIVOAT_REFUSED_DEPTH 3u           /* depth not in the mode's row */
 #define RUMCHIVOAT_REFUSED_SIZE 4u            /* tile size not allowed, columns or rows outside 1..64, tile above 65,535 */
 #define RUMCHIVOAT_REFUSED_FLIPS 5u           /* picture with flips on in a mode without flips */
-#define RUMCHIVOAT_REFUSED_COUNT 6u           /* more tiles counted than the room, than the common store, than 65,535 */
-#define RUMCHIVOAT_REFUSED_LENGTH 7u          /* input length not the one required; a map that names a tile not there */
+#define RUMCHIVOAT_REFUSED_COUNT 6u           /* more tiles counted than the room, than the common store, than 65,535;
+                                               * more rows than the run's picture has */
+#define RUMCHIVOAT_REFUSED_ROWS 19u           /* a run ended before its last row, a strip past it */
+#define RUMCHIVOAT_REFUSED_LENGTH 7u          /* input length not the one required; a map that names a tile not there;
+                                               * a strip that is empty, or is not whole rows */
 #define RUMCHIVOAT_REFUSED_PIXEL 8u           /* a pixel of 2^depth or more, in tile packing or set writing */
 #define RUMCHIVOAT_REFUSED_COMPONENT 9u       /* a component r, g or b above the top */
 #define RUMCHIVOAT_REFUSED_ENTRY_TILE 15u     /* the tile index of an entry is larger than its bits can hold */
@@ -63,7 +67,8 @@
 #define RUMCHIVOAT_REFUSED_ENTRY_PRIORITY 18u /* priority of an entry where there is none */
 #define RUMCHIVOAT_REFUSED_OUTPUT 11u         /* output buffer shorter than the bytes to be written */
 #define RUMCHIVOAT_REFUSED_ROOM 12u           /* no room for the tiles; a title would pass 65,535 */
-#define RUMCHIVOAT_REFUSED_DISCARDED 13u      /* discarding on, discard counter 4,294,967,295, and an added tile matches */
+#define RUMCHIVOAT_REFUSED_DISCARDED 13u      /* discarding on, discard counter 4,294,967,295, and an added tile matches;
+                                               * a run's would pass it */
 
 /* ---- how large buffers are, in bytes. For arguments that the calls accept; the products are size_t. */
 
@@ -93,15 +98,19 @@
     ((size_t)8 * (size_t)(depth) * (size_t)(columns) * (size_t)(rows))
 #define RUMCHIVOAT_PICTURE_TILE_BYTES_MOST 131072 /* 4,096 tiles of pce; every other mode has 65,536 at most */
 
+/* A strip of so many whole rows of tiles. The tile buffer and the map of a run are the whole picture's. */
+#define RUMCHIVOAT_STRIP_PIXELS(columns, strip_rows) RUMCHIVOAT_PICTURE_PIXELS(columns, strip_rows)
+
 /* The program on slices: the longest sheet, and what no text exceeds (proved; the longest there is has 67,691). */
 #define RUMCHIVOAT_SHEET_MOST 65641
 #define RUMCHIVOAT_TEXT_MOST 67840
 
 /* ---- the most stack that a call takes, in bytes */
 
-#define RUMCHIVOAT_STACK_CONVERT 311296 /* rumchivoat_convert; _OTHERS where its settings or lengths refuse it */
-#define RUMCHIVOAT_STACK_RUN 446464     /* rumchivoat_run */
-#define RUMCHIVOAT_STACK_OTHERS 8192    /* each of the others */
+#define RUMCHIVOAT_STACK_CONVERT 57344 /* rumchivoat_convert; _OTHERS where its settings or lengths refuse it */
+#define RUMCHIVOAT_STACK_STRIP 57344   /* rumchivoat_strip_take; _OTHERS where the record or a length refuses it */
+#define RUMCHIVOAT_STACK_RUN 196608    /* rumchivoat_run */
+#define RUMCHIVOAT_STACK_OTHERS 8192   /* each of the others */
 
 #ifdef __cplusplus
 extern "C" {
@@ -180,6 +189,32 @@ typedef struct rumchivoat_picture {
     size_t tile_bytes;
     size_t map_bytes;
 } rumchivoat_picture;
+
+/* A run: a picture that comes in strips, each of whole rows of tiles. It is plain numbers, which the caller keeps, and
+ * rumchivoat_strip_take updates it in place. Its tiles, `tiles` of them, are the first bytes of the tile buffer, and its
+ * entries, columns x `taken` of them, the first of the map. Its room is a picture's: the least of the limit if it is not
+ * 0, the tile numbers that an entry can hold, and the whole tiles of the tile buffer.
+ *
+ * Between strips the caller leaves the record alone, and the bytes of both buffers that are written. Every strip finds
+ * its tiles among the tile bytes as they stand, and believes the record so far as its checks go. */
+typedef struct rumchivoat_strip_run {
+    uint32_t mode;
+    uint32_t depth;
+    bool flip;
+    bool discard;
+    uint32_t limit; /* the most tiles; 0 for no limit */
+    uint32_t palette;
+    uint32_t columns;
+    uint32_t rows;
+    uint32_t taken; /* the rows of tiles that have come */
+    uint32_t tiles; /* the tiles stored, and those discarded, so far */
+    uint32_t discarded;
+} rumchivoat_strip_run;
+
+typedef struct rumchivoat_strip_run_answer {
+    uint32_t refusal;
+    rumchivoat_strip_run run;
+} rumchivoat_strip_run_answer;
 
 /* ---- calls. "Refused" names the numbers in the order in which they are asked. */
 
@@ -346,6 +381,34 @@ rumchivoat_picture rumchivoat_convert(uint32_t mode, uint32_t depth, bool flip, 
                                       uint32_t palette, uint32_t columns, uint32_t rows, const uint8_t *pixels,
                                       size_t pixels_len, uint8_t *tiles, size_t tiles_len, uint8_t *map,
                                       size_t map_len);
+
+/* A run of a picture of columns x rows tiles of 8x8, of which none has come. The settings are rumchivoat_convert's.
+ * Reads and writes no lent byte. Refused: 1 mode; 2 pce_sprite; 3 depth; 4 columns or rows; 5 flip in a mode without
+ * flips; 16 palette. Stack: RUMCHIVOAT_STACK_OTHERS. */
+rumchivoat_strip_run_answer rumchivoat_strip_start(uint32_t mode, uint32_t depth, bool flip, bool discard,
+                                                   uint32_t limit, uint32_t palette, uint32_t columns, uint32_t rows);
+
+/* Takes the next rows of a run's picture, one or more. However a picture is cut into strips, with the same lengths of
+ * both buffers, rumchivoat_convert would write the same bytes and count the same; where it is done, every strip is, and
+ * where it is refused with 12, some strip is.
+ * Reads    `pixels`: RUMCHIVOAT_STRIP_PIXELS(columns, rows of the strip), row by row, each cut to its low depth bits;
+ *          `tiles`: the bytes of the run's tiles, whatever they hold.
+ * Writes   `run`: its three counts; `tiles`: 8 x depth for each tile stored, after those of the run; `map`: an entry for
+ *          each tile of the strip, after those of the rows taken. Answers the counts and the lengths so far.
+ * Refused  with the record as it came: 1 mode; 2 pce_sprite; 3 depth; 4 columns or rows; 5 flip in a mode without flips;
+ *          6 more tiles counted than the room, or more rows than the picture has; 19 more pixels than those still to
+ *          come; 7 no pixels, or no whole rows; 16 palette; 11 map_len, which is the whole picture's at every strip;
+ *          12 no room for the tiles, `tiles` too short included; 13 the discard counter would pass 4,294,967,295.
+ * Stack    RUMCHIVOAT_STACK_STRIP. */
+rumchivoat_picture rumchivoat_strip_take(rumchivoat_strip_run *run, const uint8_t *pixels, size_t pixels_len,
+                                         uint8_t *tiles, size_t tiles_len, uint8_t *map, size_t map_len);
+
+/* The whole picture's counts and lengths, of a run all of whose rows have come. The record stays with the caller: where
+ * the end is refused, the run goes on.
+ * Reads and writes no lent byte. Refused: 1 mode; 2 pce_sprite; 3 depth; 4 columns or rows; 5 flip in a mode without
+ * flips; 6 more tiles counted than the limit or an entry allows, or more rows than the picture has; 19 rows are still to
+ * come; 16 palette. Stack: RUMCHIVOAT_STACK_OTHERS. */
+rumchivoat_picture rumchivoat_strip_end(rumchivoat_strip_run run);
 
 /* Draws a map's tiles; inverts rumchivoat_convert.
  * Reads    `tiles`: whole tiles of 8 x depth; `map`: RUMCHIVOAT_MAP_BYTES(mode, columns, rows).

@@ -21,11 +21,12 @@
 //!
 //! # Two layers
 //!
-//! The plain calls ([`convert`], [`pack_colors`], [`Set::add`] ..) take numbers and lent slices, as the archive does, and
-//! answer a [`Refusal`]: they cost what the archive's calls cost. The typed layer ([`Settings`], [`TileSet`], [`Title`],
-//! [`Entry`], the calls that end in `_to_vec`) is thin over them. It names what is easily swapped, ties a set to its
-//! store and a title to the store that it has in common with others, and answers [`Refused`], whose words tell the
-//! values: `refused 15: tile index 4096 is too large: pce has tiles 0 to 4095`.
+//! The plain calls ([`convert`], [`pack_colors`], [`Set::add`], [`Run::take`] ..) take numbers and lent slices, as the
+//! archive does, and answer a [`Refusal`]: they cost what the archive's calls cost. The typed layer ([`Settings`],
+//! [`Strips`], [`TileSet`], [`Title`], [`Entry`], the calls that end in `_to_vec`) is thin over them. It names what is
+//! easily swapped, ties a set to its store, a title to the store that it has in common with others and a run to its
+//! buffers, and answers [`Refused`], whose words tell the values:
+//! `refused 15: tile index 4096 is too large: pce has tiles 0 to 4095`.
 //!
 //! A mode is given as a [`Mode`] or by its number, so that a number read from elsewhere needs no check of its own: a
 //! number above 15 is answered with [`Refusal::Mode`].
@@ -52,7 +53,8 @@
 //! A call works on what it is lent and on its own stack: it keeps nothing between calls, waits for nothing and allocates
 //! nothing (the calls that give a `Vec` allocate it). So calls may run in any number of threads at once, and every type
 //! here is `Send` and `Sync`. [`stack`] says how much stack the calls take: [`stack::CONVERT`] bytes suffice for a
-//! conversion, [`stack::RUN`] for the program on slices, [`stack::OTHERS`] for any other call.
+//! conversion, [`stack::STRIP`] for a strip, [`stack::RUN`] for the program on slices, [`stack::OTHERS`] for any other
+//! call.
 
 #![cfg_attr(
     not(test),
@@ -78,6 +80,7 @@ mod refused;
 mod set;
 mod sheet;
 pub mod stack;
+mod strip;
 mod tile;
 mod tile_set;
 mod title;
@@ -93,6 +96,7 @@ pub use refusal::Refusal;
 pub use refused::{Cause, Refused};
 pub use set::{Logical, Native, Place, Set, logical_number, native_number};
 pub use sheet::{LONGEST_TEXT, Ran, Text, run, run_to_vec};
+pub use strip::{Run, Strips};
 pub use tile::{TileSize, pack_tile, pack_tile_to_vec, unpack_tile, unpack_tile_to_vec};
 pub use tile_set::{SetSettings, TileSet};
 pub use title::{Held, Title};
@@ -115,5 +119,6 @@ mod tests {
         is_shared_by_threads::<(Set, SetSettings, Place, Native, Logical, Ran, Text)>();
         is_shared_by_threads::<(TileSet<Vec<u8>>, TileSet<&mut [u8]>)>();
         is_shared_by_threads::<(Held, Title<Vec<u8>>, Title<&mut [u8]>)>();
+        is_shared_by_threads::<(Run, Strips<Vec<u8>>, Strips<&mut [u8]>)>();
     }
 }

@@ -316,7 +316,7 @@ impl Settings {
         self.places().saturating_mul(mode.entry_bytes().unwrap_or(0))
     }
 
-    fn tile_bytes(&self) -> usize {
+    pub(crate) fn tile_bytes(&self) -> usize {
         self.depth as usize * 8
     }
 
@@ -326,6 +326,11 @@ impl Settings {
         if self.limit == 0 { named } else { named.min(self.limit as usize) }
     }
 
+    /// The same, and no more than the whole tiles of so many bytes.
+    pub(crate) fn room_in(&self, mode: Mode, tile_space: usize) -> usize {
+        self.room(mode).min(tile_space / self.tile_bytes().max(1))
+    }
+
     fn why_not_sized(&self, refusal: Refusal) -> Cause {
         match refusal {
             Refusal::Size => Cause::MapSize { size: self.size() },
@@ -333,7 +338,12 @@ impl Settings {
         }
     }
 
-    fn why_not_converted(&self, refusal: Refusal, given: usize, (tile_space, map_space): (usize, usize)) -> Cause {
+    pub(crate) fn why_not_converted(
+        &self,
+        refusal: Refusal,
+        given: usize,
+        (tile_space, map_space): (usize, usize),
+    ) -> Cause {
         let in_mode = |cause: &dyn Fn(Mode) -> Cause| Cause::in_mode(self.mode, cause);
         match refusal {
             Refusal::Flips => in_mode(&|mode| Cause::Flips { mode }),
@@ -342,9 +352,7 @@ impl Settings {
             Refusal::Output => {
                 in_mode(&|mode| Cause::Output { what: "map", needed: self.map_bytes(mode), space: map_space })
             }
-            Refusal::Room => {
-                in_mode(&|mode| Cause::Room { room: self.room(mode).min(tile_space / self.tile_bytes().max(1)) })
-            }
+            Refusal::Room => in_mode(&|mode| Cause::Room { room: self.room_in(mode, tile_space) }),
             _ => self.why_not_sized(refusal),
         }
     }

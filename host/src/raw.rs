@@ -1,14 +1,17 @@
-//! The archive's functions as they are: a lent slice is a pointer and a length, an answer is a struct by value.
+//! The archive's functions as they are: a lent slice is a pointer and a length, a lent record a pointer, an answer is a
+//! struct by value.
 //!
 //! None of them asks anything of its arguments beyond what Rust's own types give, so each call below is sound for every
 //! slice and number: of two lent slices one is `&mut`, and then they do not overlap, or both are only read.
 
 mod picture;
 mod sheet;
+mod strip;
 mod title;
 
 pub(crate) use picture::{convert, redraw};
 pub(crate) use sheet::run;
+pub(crate) use strip::{strip_end, strip_start, strip_take};
 pub(crate) use title::{title_add, title_look_up};
 
 use crate::{Logical, Refusal, Set};

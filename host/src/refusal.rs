@@ -4,8 +4,9 @@ use std::error::Error;
 use std::fmt;
 
 /// Why a call was refused. Where several apply, the first in the order of the checks is given, and refusals are ordered
-/// so: the least is given. That is the order of their numbers, but for 15 to 18, which come before 11, and 14, which
-/// comes before all. There is no 10: any field of an entry was refused with it before each had a number of its own.
+/// so: the least is given. That is the order of their numbers, but for 19, which comes after 6, 15 to 18, which come before
+/// 11, and 14, which comes before all. There is no 10: any field of an entry was refused with it before each had a number
+/// of its own.
 ///
 /// A refusal is a number alone. The typed calls answer [`Refused`](crate::Refused), which has the values as well.
 ///
@@ -33,9 +34,12 @@ pub enum Refusal {
     /// 5: picture with flips on in a mode without flips.
     Flips,
     /// 6: set state counts more tiles than its room; of a title also more common tiles than their store holds, or more
-    /// than 65,535 with its own.
+    /// than 65,535 with its own; of a run also more rows than its picture has.
     Count,
-    /// 7: input length not the one required; in redrawing also tile bytes that end before a tile the map names.
+    /// 19: a run ended before its last row, or a strip past it.
+    Rows,
+    /// 7: input length not the one required; in redrawing also tile bytes that end before a tile the map names; a strip
+    /// that is not whole rows, or is empty.
     Length,
     /// 8: a pixel of 2^depth or more, in tile packing or set writing.
     Pixel,
@@ -53,7 +57,8 @@ pub enum Refusal {
     Output,
     /// 12: no room for the tiles.
     Room,
-    /// 13: discarding on, discard counter 4,294,967,295, and an added tile matches.
+    /// 13: discarding on, discard counter 4,294,967,295, and an added tile matches; a run's counter would pass it within
+    /// the strip.
     Discarded,
     /// An answer that this crate does not know, which an archive of another interface may give. Only the crate makes
     /// one; [`check_interface`](crate::check_interface) tells such an archive before the first call.
@@ -74,6 +79,7 @@ impl Refusal {
         Refusal::Size,
         Refusal::Flips,
         Refusal::Count,
+        Refusal::Rows,
         Refusal::Length,
         Refusal::Pixel,
         Refusal::Component,
@@ -96,6 +102,7 @@ impl Refusal {
             Refusal::Size => 4,
             Refusal::Flips => 5,
             Refusal::Count => 6,
+            Refusal::Rows => 19,
             Refusal::Length => 7,
             Refusal::Pixel => 8,
             Refusal::Component => 9,
@@ -128,8 +135,14 @@ impl Refusal {
                 "the mode has no tiles of this size, columns or rows are not 1 to 64, or a tile number is above 65,535"
             }
             Refusal::Flips => "flips are on, and the mode has none",
-            Refusal::Count => "more tiles are counted than there is room for, or than the common store holds",
-            Refusal::Length => "the input is not as long as it must be, or the map names a tile that is not there",
+            Refusal::Count => {
+                "more tiles are counted than there is room for, or than the common store holds, or more rows than the \
+                 picture has"
+            }
+            Refusal::Rows => "the picture's last rows have not come yet, or the strip goes past them",
+            Refusal::Length => {
+                "the input is not as long as it must be, or not whole rows, or the map names a tile that is not there"
+            }
             Refusal::Pixel => "a pixel does not fit the depth",
             Refusal::Component => "a colour component is above the mode's top",
             Refusal::EntryTile => "the tile index is larger than the mode's map entries can name",
@@ -169,7 +182,7 @@ mod tests {
 
     #[test]
     fn a_number_that_is_not_known_is_kept() {
-        for number in [0, 10, 19, 255, u32::MAX] {
+        for number in [0, 10, 20, 255, u32::MAX] {
             let refusal = Refusal::of(number);
             assert_eq!(refusal, Refusal::Unknown { number });
             assert_eq!(refusal.number(), number);
@@ -180,8 +193,8 @@ mod tests {
 
     #[test]
     fn refusals_are_in_the_order_of_the_checks() {
-        let known = [14, 1, 2, 3, 4, 5, 6, 7, 8, 9, 15, 16, 17, 18, 11, 12, 13];
-        let numbers = known.into_iter().chain([19, 255, u32::MAX - 1, u32::MAX]).collect::<Vec<u32>>();
+        let known = [14, 1, 2, 3, 4, 5, 6, 19, 7, 8, 9, 15, 16, 17, 18, 11, 12, 13];
+        let numbers = known.into_iter().chain([20, 255, u32::MAX - 1, u32::MAX]).collect::<Vec<u32>>();
         let refusals: Vec<Refusal> = numbers.iter().map(|&number| Refusal::of(number)).collect();
         assert!(refusals.is_sorted());
         assert_eq!(refusals.iter().map(|refusal| refusal.number()).collect::<Vec<u32>>(), numbers);

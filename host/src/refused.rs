@@ -172,6 +172,32 @@ pub enum Cause {
         /// The own tiles counted.
         own: u32,
     },
+    /// A run counts more tiles than there is room for.
+    RunCount {
+        /// The tiles counted.
+        tiles: u32,
+        /// The tiles that there is room for.
+        room: usize,
+    },
+    /// A strip is not whole rows of tiles, or is empty.
+    Strip {
+        /// The pixels of a row of tiles.
+        row: usize,
+        /// How many were given.
+        given: usize,
+    },
+    /// A strip goes past the picture's last row.
+    PastRows {
+        /// The pixels that are still to come.
+        left: usize,
+        /// How many were given.
+        given: usize,
+    },
+    /// A run is to end before its last row.
+    RowsLeft {
+        /// The rows of tiles that are still to come.
+        left: u32,
+    },
 }
 
 /// So many of a thing: `1 byte`, `2 bytes`.
@@ -267,6 +293,21 @@ impl Cause {
                 write!(f, "the common store holds {}, and {counted} {are} counted", Counted(tiles, "tile"))
             }
             Cause::BothCounts { common, own } => write!(f, "{common} common and {own} own tiles pass 65,535"),
+            Cause::RunCount { tiles, room } => {
+                write!(f, "the run counts {}, and there is room for {room}", Counted(tiles as usize, "tile"))
+            }
+            Cause::Strip { row, given } => {
+                let were = number_of(given, "was", "were");
+                write!(f, "a strip is whole rows of tiles, {} each, and {given} {were} given", Counted(row, "pixel"))
+            }
+            Cause::PastRows { left, given } => {
+                let (are, were) = (number_of(left, "is", "are"), number_of(given, "was", "were"));
+                write!(f, "{} {are} still to come, {given} {were} given", Counted(left, "pixel"))
+            }
+            Cause::RowsLeft { left } => {
+                let are = number_of(left as usize, "is", "are");
+                write!(f, "{} of tiles {are} still to come", Counted(left as usize, "row"))
+            }
         }
     }
 

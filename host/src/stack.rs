@@ -16,10 +16,13 @@
 //! ```
 
 /// [`convert`](crate::convert), and the calls over it.
-pub const CONVERT: usize = 304 * 1024;
+pub const CONVERT: usize = 56 * 1024;
+
+/// [`Run::take`](crate::Run::take), and [`Strips::take`](crate::Strips::take).
+pub const STRIP: usize = 56 * 1024;
 
 /// [`run`](crate::run), and [`run_to_vec`](crate::run_to_vec).
-pub const RUN: usize = 436 * 1024;
+pub const RUN: usize = 192 * 1024;
 
 /// Every other call.
 pub const OTHERS: usize = 8 * 1024;

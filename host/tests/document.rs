@@ -10,6 +10,8 @@ mod program;
 mod sets;
 #[path = "document/sheets.rs"]
 mod sheets;
+#[path = "document/strips.rs"]
+mod strips;
 #[path = "document/tiles.rs"]
 mod tiles;
 #[path = "document/titles.rs"]
@@ -94,7 +96,7 @@ fn modes_and_refusals_have_the_documents_numbers() {
     assert_eq!(Mode::try_from(16), Err(Refusal::Mode));
     for number in 0..=100 {
         // 10 is no longer given
-        let is_given = (1..=18).contains(&number) && number != 10;
+        let is_given = (1..=19).contains(&number) && number != 10;
         assert_eq!(Refusal::try_from(number).map(Refusal::number), if is_given { Ok(number) } else { Err(number) });
     }
     assert_eq!(Refusal::Depth.to_string(), "refused 3: the mode does not have this depth");

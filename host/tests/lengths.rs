@@ -2,7 +2,7 @@
 //! refused.
 
 use rumchivoat::{
-    MapSize, Mode, Refusal, Set, SetSettings, Settings, TileSet, TileSize, Title, convert, pack_colors,
+    MapSize, Mode, Refusal, Run, Set, SetSettings, Settings, Strips, TileSet, TileSize, Title, convert, pack_colors,
     pack_colors_to_vec, pack_tile, pack_tile_to_vec, redraw, unpack_colors, unpack_colors_to_vec, unpack_tile,
     unpack_tile_to_vec,
 };
@@ -89,6 +89,49 @@ fn pictures() {
         let Settings { mode, depth, columns, rows, .. } = settings;
         let short = redraw(mode, depth, columns, rows, &tiles, &map, &mut vec![0; pixel_len - 1]);
         assert_eq!(short, Err(Refusal::Output));
+        done += 1;
+    }
+    assert!(done > 400, "{done} settings were accepted");
+}
+
+/// Where the settings are refused, so is the start of a run; where not, the lengths of the whole are enough for its
+/// strips, the rows that are left are exactly what may come, and nothing can be less.
+#[test]
+fn strips() {
+    let mut done = 0;
+    for settings in settings() {
+        let refused = match Run::start(settings) {
+            Err(refusal) => {
+                assert_eq!(settings.pixel_len().map_err(Refusal::from), Err(refusal), "{settings:?}");
+                assert_eq!(Strips::start(settings, vec![], vec![]).map(drop).map_err(Refusal::from), Err(refusal));
+                continue;
+            }
+            Ok(run) => {
+                assert_eq!(settings.pixel_len().unwrap(), run.row_len() * run.rows_left() as usize, "{settings:?}");
+                move |pixels: &[u8], tiles: &mut [u8], map: &mut [u8]| {
+                    let mut run = run;
+                    run.take(pixels, tiles, map).unwrap_err()
+                }
+            }
+        };
+        let (tile_len, map_len) = (settings.tile_len().unwrap(), settings.map_len().unwrap());
+        let pixels = picture(settings, tile_len / (8 * settings.depth as usize));
+        let longer = [&pixels[..], &[0]].concat();
+        let (mut tiles, mut map) = (vec![0; tile_len], vec![0; map_len]);
+        assert_eq!(refused(&longer, &mut tiles, &mut map), Refusal::Rows, "{settings:?}");
+        assert_eq!(refused(&pixels[1..], &mut tiles, &mut map), Refusal::Length, "{settings:?}");
+        assert_eq!(refused(&pixels, &mut tiles, &mut map[1..]), Refusal::Output, "{settings:?}");
+        assert_eq!(refused(&pixels, &mut tiles[1..], &mut map), Refusal::Room, "{settings:?}");
+        let short = Strips::start(settings, vec![0; tile_len], vec![0; map_len - 1]);
+        assert_eq!(short.map(drop).map_err(Refusal::from), Err(Refusal::Output), "{settings:?}");
+
+        let mut strips = Strips::start(settings, tiles, map).unwrap();
+        for row in pixels.chunks_exact(strips.row_len()) {
+            strips.take(row).unwrap();
+        }
+        let picture = strips.end().unwrap();
+        assert_eq!((picture.tile_bytes, picture.map_bytes), (tile_len, map_len), "{settings:?}");
+        assert_eq!((strips.rows_left(), strips.tiles().len(), strips.map().len()), (0, tile_len, map_len));
         done += 1;
     }
     assert!(done > 400, "{done} settings were accepted");

@@ -5,10 +5,10 @@ use std::hint::black_box;
 use std::thread;
 
 use rumchivoat::{
-    Entry, LONGEST_TEXT, Logical, MapSize, Mode, Native, Rounding, Set, SetSettings, Settings, TileSet, TileSize,
-    Title, attribute, check_interface, convert, logical_number, native_number, pack_colors, pack_colors_to_vec,
-    pack_entry, pack_tile, pack_tile_to_vec, redraw, reduce_channel, run, run_to_vec, scale_up, stack, tile_index,
-    unpack_colors, unpack_colors_to_vec, unpack_entry, unpack_tile, unpack_tile_to_vec,
+    Entry, LONGEST_TEXT, Logical, MapSize, Mode, Native, Rounding, Run, Set, SetSettings, Settings, Strips, TileSet,
+    TileSize, Title, attribute, check_interface, convert, logical_number, native_number, pack_colors,
+    pack_colors_to_vec, pack_entry, pack_tile, pack_tile_to_vec, redraw, reduce_channel, run, run_to_vec, scale_up,
+    stack, tile_index, unpack_colors, unpack_colors_to_vec, unpack_entry, unpack_tile, unpack_tile_to_vec,
 };
 
 /// What Rust's start of a thread takes of its stack, before and after the call, with the system's share of it. The
@@ -62,6 +62,62 @@ fn conversions() -> Vec<Call> {
         let to_vec = move || settings.convert_to_vec(&pixels).is_ok();
         calls.push(call("  the same to a vec", stated, done, to_vec));
     }
+    calls
+}
+
+/// The largest pictures row by row, all rows but the last and then that one, one tile, and refused strips. A run takes
+/// its strips again and again, from what its record was before them.
+fn strips() -> Vec<Call> {
+    let pce = settings(Mode::Pce, 4, 64);
+    let snes = settings(Mode::Snes, 8, 32);
+    let cases: [(_, Settings, Vec<u32>, bool); 7] = [
+        ("Run::take, pce 64x64 row by row", pce, vec![1; 64], true),
+        ("Run::take, pce 64x64 at once", pce, vec![64], true),
+        ("Run::take, pce 64x64 but the last", pce, vec![63, 1], true),
+        ("Run::take, snes 32x32 with flips", snes, vec![31, 1], true),
+        ("Run::take, gb 1x1", settings(Mode::Gb, 1, 1), vec![1], true),
+        ("Run::take, no room", snes.limit(1023), vec![31, 1], false),
+        ("Run::take, past the last row", snes, vec![31, 2], false),
+    ];
+    let mut calls = Vec::new();
+    for (name, settings, heights, done) in cases {
+        let rows: u32 = heights.iter().sum();
+        let pixels = different_pixels(64 * (settings.columns * rows) as usize);
+        let (mut tiles, mut map) = (vec![0; 4096 * 64], vec![0; 2 * 4096]);
+        let begun = Run::start(settings).unwrap();
+        calls.push(call(name, stack::STRIP, done, move || {
+            let (mut run, mut rest) = (begun, &pixels[..]);
+            heights.iter().all(|&rows| {
+                let (strip, later) = rest.split_at(run.row_len() * rows as usize);
+                rest = later;
+                run.take(strip, &mut tiles, &mut map).is_ok()
+            })
+        }));
+    }
+    let pixels = different_pixels(64 * 64 * 64);
+    let (tiles, map) = (vec![0; pce.tile_len().unwrap()], vec![0; pce.map_len().unwrap()]);
+    let mut typed = Strips::start(pce, tiles, map).unwrap();
+    typed.take(&pixels[..63 * 64 * 64]).unwrap();
+    let early = typed.clone();
+    let mut whole = typed.clone();
+    whole.take(&pixels[63 * 64 * 64..]).unwrap();
+    let last = pixels[63 * 64 * 64..].to_vec();
+    let refused = last[1..].to_vec();
+    let mut short = typed.clone();
+    let (begun, mut tiles, mut map) = typed.into_parts();
+    let mut of_no_mode = Run { mode: 16, ..begun };
+    calls.extend([
+        call("Run::take, the last of pce 64x64", stack::STRIP, true, move || {
+            let mut run = begun;
+            run.take(&last, &mut tiles, &mut map).is_ok()
+        }),
+        call("Strips::take, a wrong length", stack::STRIP, false, move || short.take(&refused).is_ok()),
+        call("Run::take, no such mode", stack::STRIP, false, move || of_no_mode.take(&[], &mut [], &mut []).is_ok()),
+        call("Run::start", stack::OTHERS, true, move || Run::start(pce).is_ok()),
+        call("Run::start, no such palette", stack::OTHERS, false, move || Run::start(pce.palette(16)).is_ok()),
+        call("Strips::end", stack::OTHERS, true, move || whole.end().is_ok()),
+        call("Strips::end, too early", stack::OTHERS, false, move || early.end().is_ok()),
+    ]);
     calls
 }
 
@@ -285,7 +341,9 @@ fn redraws() -> Vec<Call> {
 }
 
 fn calls() -> Vec<Call> {
-    [conversions(), runs(), redraws(), tiles(), colors(), entries(), sets(), titles()].into_iter().flatten().collect()
+    let pictures = [conversions(), strips(), runs(), redraws()];
+    let others = [tiles(), colors(), entries(), sets(), titles()];
+    pictures.into_iter().chain(others).flatten().collect()
 }
 
 /// What no call leaves all over its stack.
@@ -344,13 +402,13 @@ fn the_stated_figures_are_what_the_calls_take() {
     };
     let thread = thread::Builder::new().stack_size(2 * PAINTED).spawn(measure).expect("a thread can be started");
     let measured = thread.join().expect("the measuring ends");
-    println!("{:<32} {:>9} {:>9}", "call", "bytes", "stated");
+    println!("{:<34} {:>9} {:>9}", "call", "bytes", "stated");
     for (name, stated, depth) in &measured {
         let most = if *depth <= OWN { format!("<= {OWN}") } else { depth.to_string() };
-        println!("{name:<32} {most:>9} {stated:>9}");
+        println!("{name:<34} {most:>9} {stated:>9}");
         assert!(depth <= stated, "{name} takes {depth} bytes of stack, and {stated} are stated");
     }
-    for stated in [stack::CONVERT, stack::RUN] {
+    for stated in [stack::CONVERT, stack::STRIP, stack::RUN] {
         let most = measured.iter().filter(|call| call.1 == stated).map(|call| call.2).max().unwrap_or(0);
         assert!(stated <= most + SLACK, "{stated} bytes of stack are stated, and {most} were taken");
     }

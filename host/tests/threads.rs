@@ -2,7 +2,7 @@
 
 use std::thread;
 
-use rumchivoat::{Converted, MapSize, Mode, Set, SetSettings, Settings, TileSize, Title, run_to_vec};
+use rumchivoat::{Converted, MapSize, Mode, Run, Set, SetSettings, Settings, Strips, TileSize, Title, run_to_vec};
 
 const THREADS: usize = 8;
 const TURNS: usize = 20;
@@ -53,6 +53,33 @@ fn title_work(number: usize, common: &[u8]) -> Left {
     }
     let (set, store) = title.into_own().into_parts();
     (set, store, places)
+}
+
+/// The picture in strips of one row and of two, turn about: the record and both buffers, after each strip.
+fn strip_work(number: usize) -> Vec<(Run, Vec<u8>, Vec<u8>)> {
+    let settings = settings(number);
+    let pixels = pixels(number, settings);
+    let (tile_len, map_len) = (settings.tile_len().expect("as above"), settings.map_len().expect("as above"));
+    let mut strips = Strips::start(settings, vec![0; tile_len], vec![0; map_len]).expect("the map is long enough");
+    let mut left = Vec::new();
+    while strips.rows_left() > 0 {
+        let rows = (1 + left.len() % 2).min(strips.rows_left() as usize);
+        let start = strips.rows_taken() as usize * strips.row_len();
+        strips.take(&pixels[start..start + rows * strips.row_len()]).expect("the picture has room");
+        left.push(strips.clone().into_parts());
+    }
+    left
+}
+
+#[test]
+fn strips_do_not_meet() {
+    let alone: Vec<_> = (0..THREADS).map(strip_work).collect();
+    assert!(alone.iter().flatten().any(|(run, ..)| run.discarded > 0));
+    thread::scope(|scope| {
+        for (number, expected) in alone.iter().enumerate() {
+            scope.spawn(move || (0..TURNS).for_each(|_| assert!(strip_work(number) == *expected, "run {number}")));
+        }
+    });
 }
 
 #[test]

@@ -1,8 +1,8 @@
 //! The words of a refusal tell the values, need no paper at hand, and belong to the number that the archive gave.
 
 use rumchivoat::{
-    Cause, Entry, Logical, MapSize, Mode, Native, Refusal, Refused, SetSettings, Settings, TileSet, TileSize, Title,
-    pack_colors_to_vec, pack_tile_to_vec, unpack_colors_to_vec, unpack_tile_to_vec,
+    Cause, Entry, Logical, MapSize, Mode, Native, Refusal, Refused, SetSettings, Settings, Strips, TileSet, TileSize,
+    Title, pack_colors_to_vec, pack_tile_to_vec, unpack_colors_to_vec, unpack_tile_to_vec,
 };
 
 /// The words of a call that is refused.
@@ -142,6 +142,47 @@ fn pictures() {
     assert_eq!(words(wide.redraw_to_vec(&[], &[])), "refused 4: columns and rows are 1 to 64 each, not 65x1");
     // flips and palette have no part in redrawing
     assert_eq!(words(picture(Mode::Pce, 4).flips().palette(99).redraw_to_vec(&[0; 32], &[0; 4])), "it was done");
+}
+
+#[test]
+fn strips() {
+    let settings = Settings::new(Mode::Snes, 2, MapSize { columns: 2, rows: 3 }).discarding();
+    let start = |settings: Settings, map: usize| words(Strips::start(settings, vec![0; 64], vec![0; map]));
+    assert_eq!(start(picture(Mode::Snes, 7), 12), "refused 3: snes has depths 2, 4 and 8, not 7");
+    assert_eq!(start(picture(Mode::Pce, 4).flips(), 12), "refused 5: pce has no flips");
+    assert_eq!(start(settings.palette(8), 12), "refused 16: palette index 8 is too large: snes has palettes 0 to 7");
+    assert_eq!(start(settings, 11), "refused 11: the map needs 12 bytes and has 11");
+
+    let mut strips = Strips::start(settings.limit(1), vec![0; 64], vec![0; 12]).unwrap();
+    let whole_rows = "refused 7: a strip is whole rows of tiles, 128 pixels each, and";
+    assert_eq!(words(strips.take(&[])), format!("{whole_rows} 0 were given"));
+    assert_eq!(words(strips.take(&[0; 1])), format!("{whole_rows} 1 was given"));
+    assert_eq!(words(strips.take(&[0; 129])), format!("{whole_rows} 129 were given"));
+    assert_eq!(words(strips.take(&[0; 385])), "refused 19: 384 pixels are still to come, 385 were given");
+    assert_eq!(words(strips.end()), "refused 19: 3 rows of tiles are still to come");
+    strips.take(&[1; 256]).unwrap();
+    assert_eq!(words(strips.take(&[2; 128])), "refused 12: there is room for 1 tile and no more");
+    assert_eq!(words(strips.end()), "refused 19: 1 row of tiles is still to come");
+    strips.take(&[1; 128]).unwrap();
+    assert_eq!(words(strips.take(&[1; 1])), "refused 19: 0 pixels are still to come, 1 was given");
+    assert_eq!(words(strips.take(&[])), format!("{whole_rows} 0 were given"));
+    assert_eq!(words(strips.end()), "it was done");
+}
+
+/// A run's buffers that shrink behind its back are told, and not written beyond their end.
+#[test]
+fn buffers_that_shrink_are_told() {
+    let settings = Settings::new(Mode::Gb, 1, MapSize { columns: 1, rows: 2 });
+    let start = |tiles: usize, map: usize| Strips::start(settings, Shrinking(vec![0; tiles]), Shrinking(vec![0; map]));
+    // a tile's 8 bytes are there at first, and then 4 of them
+    let mut strips = start(16, 8).unwrap();
+    strips.take(&[1; 64]).unwrap();
+    assert_eq!(words(strips.take(&[0; 64])), "refused 6: the run counts 1 tile, and there is room for 0");
+    assert!(strips.tiles().is_empty());
+    let mut strips = start(64, 2).unwrap();
+    assert_eq!(words(strips.take(&[1; 64])), "refused 11: the map needs 2 bytes and has 1");
+    let mut strips = start(8, 4).unwrap();
+    assert_eq!(words(strips.take(&[1; 64])), "refused 12: there is room for 0 tiles and no more");
 }
 
 #[test]

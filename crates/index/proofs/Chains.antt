@@ -3,11 +3,11 @@
 use mathlib.Core.Path.{_≡_, refl, sym, ap, _∙_, subst}
 use mathlib.Core.Bool.{Bool, true, false, cond, _||_}
 use mathlib.Core.List.{List, [], _∷_}
-use Prim.Native.Nat.{ℕ, zero, suc, _+_, _*_, _-_, _%_, _<_, _≤_}
+use Prim.Native.Nat.{ℕ, zero, suc, _+_, _-_, _%_, _<_, _≤_}
 use native.Mathlib.Nat.{add-zero, add-suc, le-refl}
 use native.Mathlib.Omega.{arith}
 use lib.Dec.{eqb}
-use lib.ListN.{length, getD, take, drop}
+use lib.ListN.{length, getD, take}
 use lib.Seq.{take-suc, take-length, length-take-le, getD-take}
 use borrow.Author.Tests.{eqb-true}
 use Rattle.words.proofs.Loops.{or-true}
@@ -15,14 +15,13 @@ use Rattle.flip.specs.Matching.{matchFlip, isUnder, matches}
 use Rattle.flip.specs.declared.Match.{Match}
 use Rattle.flip.specs.declared.Match.the-variants.{Under, Never}
 use Rattle.flip.proofs.Equivalence.{matches-trans, not-both}
-use Rattle.tileset.specs.Finding.{logical, foundOr, tilesIn, lookUp, isFound}
+use Rattle.tileset.specs.Finding.{logical, foundOr, lookUp, isFound}
 use Rattle.tileset.specs.Matched.{matchesSome}
 use Rattle.tileset.specs.declared.Found.{Found}
 use Rattle.tileset.specs.declared.Found.the-variants.{At, Nothing}
 use Rattle.tileset.proofs.Matched.{look-some}
 use Rattle.tileset.proofs.Search.{orElse, look-append}
-use Rattle.tileset.proofs.Stores.{tiles-at, tiles-long}
-use Rattle.index.specs.Inner.{key, bucketOf, Skip, Gap, Indexed, linkOf, LooksAt, Searches}
+use Rattle.index.specs.Inner.{bucketOf, Skip, Gap, Indexed, linkOf, Searches}
 use Rattle.index.proofs.Keys.{matches-key}
 
 module _ (on : Bool) (tiles : List (List ℕ)) (keys heads next : List ℕ) (x : Indexed on tiles keys heads next) (b k : ℕ) (p : k < length tiles) where
@@ -132,61 +131,46 @@ module _ (on : Bool) (t : List ℕ) where
 -- ---- a search
 
 -- the tiles from l on are searched, and r is what they hold
-pub record Searching (on : Bool) (s : List ℕ) (count : ℕ) (t : List ℕ) (l : ℕ) (r : Found) : Type 0 where
-  pub low : l ≤ count
-  pub is : lookUp on 8 8 (tilesIn 64 s count) t ≡ below on t (tilesIn 64 s count) l r
+pub record Searching (on : Bool) (tiles : List (List ℕ)) (t : List ℕ) (l : ℕ) (r : Found) : Type 0 where
+  pub low : l ≤ length tiles
+  pub is : lookUp on 8 8 tiles t ≡ below on t tiles l r
 
-module _ (on : Bool) (s keys heads next : List ℕ) (count : ℕ) (t : List ℕ) (q : ℕ) (z : Searches on s keys heads next count t q) where
-  abbrev tiles : List (List ℕ)
-  tiles = tilesIn 64 s count
-
+module _ (on : Bool) (tiles : List (List ℕ)) (keys heads next t : List ℕ) (q : ℕ) (z : Searches on tiles keys heads next t q) where
   bucket-is : (b : ℕ) → b ≡ q % 4096 → b ≡ bucketOf on t
   bucket-is b e = e ∙ ap (λ (n : ℕ). n % 4096) (z .its)
 
-  pub search-start : (b : ℕ) {l : ℕ} → b ≡ q % 4096 → b < 4096 → l ≡ getD heads b 0 → Searching on s count t l Nothing
+  pub search-start : (b : ℕ) {l : ℕ} → b ≡ q % 4096 → b < 4096 → l ≡ getD heads b 0 → Searching on tiles t l Nothing
   search-start b {l} e p g =
       let low : l ≤ length tiles = subst (λ (n : ℕ). n ≤ length tiles) (sym g) (z .index .headLow b p) in
       let free : Gap on tiles (bucketOf on t) l (length tiles) =
       subst (λ (n : ℕ). Gap on tiles (bucketOf on t) n (length tiles)) (sym g)
       (subst (λ (n : ℕ). Gap on tiles n (getD heads b 0) (length tiles)) (bucket-is b e) (z .index .headGap b p)) in
       record {
-        low = omega (arith, tiles-long 64 s count);
+        low = low;
         is = below-all on t tiles ∙ gap on t tiles l (length tiles) Nothing low (le-refl (length tiles)) free;
       }
 
-  pub search-look : (k : ℕ) → k < count → LooksAt on s keys t k q
-  search-look k p =
-      record {
-        place = omega (arith, z .few);
-        keyed = z .index .keyed k (omega (arith, tiles-long 64 s count)) ∙ ap (key on) (tiles-at 64 s count k p);
-        its = z .its;
-      }
-
-  module _ (b : ℕ) {l k next-l : ℕ} {r next-r : Found} {m : Match} (e : b ≡ q % 4096) (o : 0 < l) (up : l ≡ suc k) (h : Searching on s count t l r)
-      (em : m ≡ matchFlip on 8 8 (take 64 (drop (k * 64) s)) t) (er : next-r ≡ foundOr m k r) (el : next-l ≡ linkOf keys next b k) where
-    kc : k < count
-    kc = omega (arith, h .low)
-
+  module _ (b : ℕ) {l k next-l : ℕ} {r next-r : Found} {m : Match} (e : b ≡ q % 4096) (o : 0 < l) (up : l ≡ suc k) (h : Searching on tiles t l r)
+      (em : m ≡ matchFlip on 8 8 (getD tiles k []) t) (er : next-r ≡ foundOr m k r) (el : next-l ≡ linkOf keys next b k) where
     kt : k < length tiles
-    kt = omega (arith, tiles-long 64 s count, kc)
+    kt = omega (arith, h .low)
 
     pub search-down : next-l ≤ k
     search-down = subst (λ (n : ℕ). n ≤ k) (sym el) (link-gap on tiles keys heads next (z .index) b k kt .0)
 
-    pub search-turn : Searching on s count t next-l next-r
+    pub search-turn : Searching on tiles t next-l next-r
     search-turn =
         let free : Gap on tiles (bucketOf on t) next-l k =
         subst (λ (n : ℕ). Gap on tiles (bucketOf on t) n k) (sym el)
         (subst (λ (n : ℕ). Gap on tiles n (linkOf keys next b k) k) (bucket-is b e) (link-gap on tiles keys heads next (z .index) b k kt .1)) in
-        let here : matchFlip on 8 8 (getD tiles k []) t ≡ m = ap (λ (a : List ℕ). matchFlip on 8 8 a t) (tiles-at 64 s count k kc) ∙ sym em in
         record {
-          low = omega (arith, search-down, kc);
+          low = omega (arith, search-down, kt);
           is =
               h .is ∙ ap (λ (n : ℕ). below on t tiles n r) up
               ∙ turn on t tiles k next-l r kt search-down free
-              ∙ ap (λ (x : Match). below on t tiles next-l (foundOr x k r)) here
+              ∙ ap (λ (x : Match). below on t tiles next-l (foundOr x k r)) (sym em)
               ∙ ap (below on t tiles next-l) (sym er);
         }
 
-  pub search-end : {l : ℕ} {r : Found} → l ≡ 0 → Searching on s count t l r → r ≡ lookUp on 8 8 tiles t
+  pub search-end : {l : ℕ} {r : Found} → l ≡ 0 → Searching on tiles t l r → r ≡ lookUp on 8 8 tiles t
   search-end {r = r} e h = sym (h .is ∙ ap (λ (n : ℕ). below on t tiles n r) e ∙ below-none on t tiles r)

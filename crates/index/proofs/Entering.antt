@@ -4,20 +4,19 @@ use mathlib.Core.Path.{_≡_, refl, sym, ap, _∙_, subst}
 use mathlib.Core.Bool.{Bool, true, false}
 use mathlib.Core.List.{List, [], _∷_, _++_}
 use mathlib.Core.Logic.{⊎-elim}
-use Prim.Native.Nat.{ℕ, _+_, _*_, _%_, _<_, _≤_}
+use Prim.Native.Nat.{ℕ, _+_, _%_, _<_, _≤_}
 use native.Mathlib.Nat.{eq-or-lt-of-le, ne-of-lt, mod-lt}
 use native.Mathlib.Omega.{arith}
 use lib.Dec.{eqb}
 use lib.ListN.{length, getD, set, length-append, List·getD-append}
-use lib.Seq.{sets, getD-append-seam, getD-set-same, getD-set-other, set-getD}
+use lib.Seq.{getD-append-seam, getD-set-same, getD-set-other, set-getD}
 use borrow.Author.Tests.{eqb-true, eqb-false}
 use Rattle.flip.specs.Matching.{matches}
-use Rattle.tileset.specs.Finding.{tilesIn, lookUp, isFound}
+use Rattle.tileset.specs.Finding.{lookUp, isFound}
 use Rattle.tileset.specs.declared.Found.{Found}
 use Rattle.tileset.specs.declared.Found.the-variants.{At, Nothing}
 use Rattle.tileset.proofs.Matched.{look-some}
-use Rattle.tileset.proofs.Stores.{tiles-put, tiles-long}
-use Rattle.index.specs.Inner.{key, bucketOf, Skip, Gap, Indexed, headOf, Enters, Entered}
+use Rattle.index.specs.Inner.{key, bucketOf, Skip, Gap, Indexed, headOf, Searches, Enters}
 use Rattle.index.proofs.Chains.{some-where}
 
 -- ---- an index of no tiles
@@ -144,26 +143,17 @@ module _ (on : Bool) (tiles : List (List ℕ)) (t : List ℕ) where
       enter-case Nothing e = enter-new
       enter-case (At k f) e = rw (set-getD heads b 0) (enter-old (ap isFound e))
 
--- ---- the store and the index after one tile more
+-- ---- the index after one tile more
 
-module _ (on : Bool) (store keys heads next : List ℕ) (count : ℕ) (t : List ℕ) (q : ℕ) (found : Found) (z : Enters on store keys heads next count t q found)
-    (whole : length t ≡ 64) (long : length store ≡ 262144) (kl : length keys ≡ 4096) (hl : length heads ≡ 4096) (nl : length next ≡ 4096) where
-  abbrev tiles : List (List ℕ)
-  tiles = tilesIn 64 store count
-
+module _ {on : Bool} {tiles : List (List ℕ)} {keys heads next t : List ℕ} {q : ℕ} {found : Found} (z : Searches on tiles keys heads next t q)
+    (room : length tiles < 4096) (looked : found ≡ lookUp on 8 8 tiles t) (kl : length keys ≡ 4096) (hl : length heads ≡ 4096) (nl : length next ≡ 4096) where
   abbrev Then : ℕ → ℕ → Type 0
   Then n k = Indexed on (tiles ++ t ∷ []) (set keys n k) (set heads (k % 4096) (headOf found (getD heads (k % 4096) 0) n)) (set next n (getD heads (k % 4096) 0))
 
-  pub entered : {store-then keys-then heads-then next-then : List ℕ} → store-then ≡ sets store (count * 64) t → keys-then ≡ set keys count q
-      → next-then ≡ set next count (getD heads (q % 4096) 0) → heads-then ≡ set heads (q % 4096) (headOf found (getD heads (q % 4096) 0) count)
-      → Entered on (tiles ++ t ∷ []) store-then keys-then heads-then next-then (count + 1)
-  entered es ek en eh =
-      let n : length tiles ≡ count = tiles-long 64 store count in
+  pub entered : {n : ℕ} {keys-then heads-then next-then : List ℕ} → length tiles ≡ n → Enters keys heads next n q found keys-then heads-then next-then
+      → Indexed on (tiles ++ t ∷ []) keys-then heads-then next-then
+  entered {n} long e =
       let a : Then (length tiles) (key on t) =
-      enter-case on tiles t keys heads next (z .index) (omega (arith, z .room)) (omega (arith, z .room)) (omega (arith, mod-lt (key on t) {m = 4096} (omega arith)))
-      found (sym (z .looked)) in
-      let i : Then count q = subst (λ (k : ℕ). Then count k) (sym (z .its)) (subst (λ (m : ℕ). Then m (key on t)) n a) in
-      record {
-        is = ap (λ (s : List ℕ). tilesIn 64 s (count + 1)) es ∙ tiles-put 64 store t count (omega (arith, z .room)) whole;
-        index = rw (ek, en, eh) i;
-      }
+      enter-case on tiles t keys heads next (z .index) (omega arith) (omega arith) (omega (arith, mod-lt (key on t) {m = 4096} (omega arith))) found (sym looked) in
+      let i : Then n q = subst (λ (k : ℕ). Then n k) (sym (z .its)) (subst (λ (m : ℕ). Then m (key on t)) long a) in
+      rw (e .keyed, e .linked, e .headed) i

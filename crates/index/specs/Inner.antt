@@ -1,14 +1,14 @@
--- The index of stored 8x8 tiles, all of it scaffolding of proofs, which no export's contract reaches: keys, when an index is true, and what it asks.
+-- The index of 8x8 tiles, all of it scaffolding of proofs, which no export's contract reaches: keys, when an index is true, and what it asks.
 -- Assumes nothing.
 use mathlib.Core.Path.{_≡_}
 use mathlib.Core.Bool.{Bool, true, false, cond}
 use mathlib.Core.List.{List, []}
 use Prim.Native.Nat.{ℕ, zero, suc, _+_, _*_, _/_, _%_, _<_, _≤_}
 use lib.Dec.{eqb}
-use lib.ListN.{length, getD, take, drop}
+use lib.ListN.{length, getD, set}
 use Rattle.flip.specs.Flips.{flip, flipped}
 use Rattle.flip.specs.Matching.{matches}
-use Rattle.tileset.specs.Finding.{tilesIn, lookUp, isFound}
+use Rattle.tileset.specs.Finding.{isFound}
 use Rattle.tileset.specs.declared.Found.{Found}
 
 -- ---- the key of a tile, which no allowed flip changes: a hash, summed over the four flips, or with flips off over two
@@ -63,27 +63,16 @@ linkOf keys next b k = cond (eqb (getD keys k 0 % 4096) b) (getD next k 0) k
 abbrev pub headOf : Found → ℕ → ℕ → ℕ
 headOf found head n = cond (isFound found) head (n + 1)
 
--- ---- what looking, searching and entering ask
+-- ---- what a search asks, and what entering leaves
 
--- Looking at stored tile k, where q is the key of the tile.
-pub record LooksAt (on : Bool) (store keys tile : List ℕ) (k q : ℕ) : Type 0 where
-  pub place : k < 4096
-  pub keyed : getD keys k 0 ≡ key on (take 64 (drop (k * 64) store))
-  pub its : q ≡ key on tile
-
--- A search among the first count tiles of a store, and entering one more.
-pub record Searches (on : Bool) (store keys heads next : List ℕ) (count : ℕ) (tile : List ℕ) (q : ℕ) : Type 0 where
-  pub few : count ≤ 4096
-  pub index : Indexed on (tilesIn 64 store count) keys heads next
-  pub its : q ≡ key on tile
-
-pub record Enters (on : Bool) (store keys heads next : List ℕ) (count : ℕ) (tile : List ℕ) (q : ℕ) (found : Found) : Type 0 where
-  pub room : count < 4096
-  pub index : Indexed on (tilesIn 64 store count) keys heads next
-  pub its : q ≡ key on tile
-  pub looked : found ≡ lookUp on 8 8 (tilesIn 64 store count) tile
-
--- A store whose first count tiles are these, and their index.
-pub record Entered (on : Bool) (tiles : List (List ℕ)) (store keys heads next : List ℕ) (count : ℕ) : Type 0 where
-  pub is : tilesIn 64 store count ≡ tiles
+-- A search among some tiles, where q is the key of the tile that is looked up.
+pub record Searches (on : Bool) (tiles : List (List ℕ)) (keys heads next tile : List ℕ) (q : ℕ) : Type 0 where
+  pub few : length tiles ≤ 4096
   pub index : Indexed on tiles keys heads next
+  pub its : q ≡ key on tile
+
+-- The index after tile n, whose key is q.
+pub record Enters (keys heads next : List ℕ) (n q : ℕ) (found : Found) (keysAfter headsAfter nextAfter : List ℕ) : Type 0 where
+  pub keyed : keysAfter ≡ set keys n q
+  pub linked : nextAfter ≡ set next n (getD heads (q % 4096) 0)
+  pub headed : headsAfter ≡ set heads (q % 4096) (headOf found (getD heads (q % 4096) 0) n)

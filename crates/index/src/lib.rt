@@ -1,20 +1,19 @@
-// An index of stored 8x8 tiles: the first that matches a tile is found without comparing it with each. A tile's key, which no
-// allowed flip changes, names its bucket; the tiles of a bucket are chained from the last to the first.
+// An index of 8x8 tiles: the first that matches a tile is found without comparing it with each. A tile's key, which no allowed flip
+// changes, names its bucket; the tiles of a bucket are chained from the last to the first. The tiles stay with the caller, who searches
+// a chain by `bucket`, `link` and `over`.
 use flip::Flip;
 use flip::Match;
 use tileset::Found;
 use tileset::Logical;
 ghost use mathlib.Core.Path.{_≡_};
-ghost use mathlib.Core.List.{[], _∷_, _++_};
 ghost use Prim.Native.Nat.{_+_, _*_, _%_, _<_, _≤_};
-ghost use lib.ListN.{length, getD, set, take, drop};
-ghost use lib.Seq.{sets};
+ghost use lib.ListN.{length, getD};
 ghost use Rattle.flip.specs.Flips.{flipped};
-ghost use Rattle.flip.specs.Matching.{matchFlip};
-ghost use Rattle.tileset.specs.Finding.{foundOr, tilesIn, lookUp};
-ghost use Rattle.index.specs.Inner.{word, hash, mix, pair, key, linkOf, headOf, LooksAt, Searches, Enters, Entered};
+ghost use Rattle.tileset.specs.Finding.{foundOr};
+ghost use Rattle.index.specs.Inner.{word, hash, mix, pair, key, linkOf, headOf, Enters};
 
-fn place(x: u16) -> usize
+// A number of the index as a place.
+pub fn place(x: u16) -> usize
     ensures { λ r. ⌜ r ≡ x ⌝ }
 {
     x as usize
@@ -90,32 +89,15 @@ pub fn key(tile: &[u8; 64], flips: bool) -> u32
     (two % 4294967296) as u32
 }
 
-fn bucket(q: u32) -> usize
+// Where the chain of a key begins.
+pub fn bucket(q: u32) -> usize
     ensures { λ r. ⌜ (r ≡ q % 4096) × (r < 4096) ⌝ }
 {
     (q % 4096) as usize
 }
 
-// How stored tile k matches the tile, whose key is q: tiles are compared only where their keys agree.
-fn match_at(
-    store: &[u8; 262144],
-    keys: &[u32; 4096],
-    k: usize,
-    q: u32,
-    tile: &[u8; 64],
-    flips: bool,
-) -> Match
-    requires { ⌜ LooksAt flips (now store) (now keys) (now tile) k q ⌝ }
-    ensures { λ r. ⌜ r ≡ matchFlip flips 8 8 (take 64 (drop (k * 64) (now (store .entry)))) (now (tile .entry)) ⌝ }
-{
-    if keys[k] != q {
-        return Match::Never;
-    }
-    flip::match_flip(store, k * 64, tile, 8, 8, flips)
-}
-
 // Tile k where it matches, else what was found.
-fn over(m: Match, k: usize, found: Found) -> Found
+pub fn over(m: Match, k: usize, found: Found) -> Found
     requires { ⌜ k < 4096 ⌝ }
     ensures { λ r. ⌜ r ≡ foundOr m k found ⌝ }
 {
@@ -126,7 +108,7 @@ fn over(m: Match, k: usize, found: Found) -> Found
 }
 
 // The link that follows tile k in bucket b.
-fn link(keys: &[u32; 4096], next: &[u16; 4096], b: usize, k: usize) -> usize
+pub fn link(keys: &[u32; 4096], next: &[u16; 4096], b: usize, k: usize) -> usize
     requires { ⌜ k < 4096 ⌝ }
     ensures { λ r. ⌜ r ≡ linkOf (now (keys .entry)) (now (next .entry)) b k ⌝ }
 {
@@ -134,32 +116,6 @@ fn link(keys: &[u32; 4096], next: &[u16; 4096], b: usize, k: usize) -> usize
         return k;
     }
     place(next[k])
-}
-
-// The first of so many tiles of the store that matches the tile, whose key is q.
-pub fn find(
-    store: &[u8; 262144],
-    keys: &[u32; 4096],
-    heads: &[u16; 4096],
-    next: &[u16; 4096],
-    count: usize,
-    tile: &[u8; 64],
-    q: u32,
-    flips: bool,
-) -> Found
-    requires { ⌜ Searches flips (now store) (now keys) (now heads) (now next) count (now tile) q ⌝ }
-    ensures { λ r. ⌜ r ≡ lookUp flips 8 8 (tilesIn 64 (now (store .entry)) count) (now (tile .entry)) ⌝ }
-{
-    let b = bucket(q);
-    let mut l = place(heads[b]);
-    let mut found = Found::Nothing;
-    while 0 < l {
-        let k = l - 1;
-        let m = match_at(store, keys, k, q, tile, flips);
-        found = over(m, k, found);
-        l = link(keys, next, b, k);
-    }
-    found
 }
 
 // The head of a bucket after tile n: a tile that another matches is in no chain.
@@ -173,47 +129,15 @@ fn head_of(found: Found, head: u16, n: usize) -> u16
     head
 }
 
-// The tile, from place at of the store on: a loop of 64, which compiles to four moves.
-fn put_tile(store: &mut [u8], at: usize, tile: &[u8])
-    requires { ⌜ (at + 64 ≤ length (now store)) × (length (now tile) ≡ 64) ⌝ }
-    ensures { λ _. ⌜ now (store .exit) ≡ sets (now (store .entry)) at (now (tile .entry)) ⌝ }
-{
-    let mut i = 0;
-    while i < 64 {
-        store[at + i] = tile[i];
-        i += 1;
-    }
-}
-
-// Key, link and head for tile n, whose key is q.
-fn chain(keys: &mut [u32], heads: &mut [u16], next: &mut [u16], n: usize, q: u32, found: Found)
+// One tile more, tile n, whose key is q: its key, its link and the head of its bucket. Found is what a look-up of it among those before it
+// found.
+pub fn enter(keys: &mut [u32], heads: &mut [u16], next: &mut [u16], n: usize, q: u32, found: Found)
     requires { ⌜ (n < 4096) × (n < length (now keys)) × (n < length (now next)) × (4096 ≤ length (now heads)) ⌝ }
-    ensures { λ _. ⌜ now (keys .exit) ≡ set (now (keys .entry)) n q ⌝ }
-    ensures { λ _. ⌜ now (next .exit) ≡ set (now (next .entry)) n (getD (now (heads .entry)) (q % 4096) 0) ⌝ }
-    ensures { λ _. ⌜ now (heads .exit) ≡ set (now (heads .entry)) (q % 4096) (headOf found (getD (now (heads .entry)) (q % 4096) 0) n) ⌝ }
+    ensures { λ _. ⌜ Enters (now (keys .entry)) (now (heads .entry)) (now (next .entry)) n q found (now (keys .exit)) (now (heads .exit)) (now (next .exit)) ⌝ }
 {
     let b = bucket(q);
     let head = heads[b];
     keys[n] = q;
     next[n] = head;
     heads[b] = head_of(found, head, n);
-}
-
-// One tile more: it goes at the end of the store and into the index. Found is what a look-up of it found.
-pub fn enter(
-    store: &mut [u8; 262144],
-    keys: &mut [u32; 4096],
-    heads: &mut [u16; 4096],
-    next: &mut [u16; 4096],
-    count: usize,
-    tile: &[u8; 64],
-    q: u32,
-    flips: bool,
-    found: Found,
-)
-    requires { ⌜ Enters flips (now store) (now keys) (now heads) (now next) count (now tile) q found ⌝ }
-    ensures { λ _. ⌜ Entered flips (tilesIn 64 (now (store .entry)) count ++ now (tile .entry) ∷ []) (now (store .exit)) (now (keys .exit)) (now (heads .exit)) (now (next .exit)) (count + 1) ⌝ }
-{
-    put_tile(store, count * 64, tile);
-    chain(keys, heads, next, count, q, found);
 }

@@ -68,6 +68,9 @@ module _ (m d : ℕ) (mode : m < 16) (map : m ≡ pce-sprite → ⊥) (depth : T
 pub native-tile : {m d : ℕ} → m < 16 → (m ≡ pce-sprite → ⊥) → T (hasDepth m d) → Native m d 8 8
 native-tile {m} {d} mode map depth = native-cell (is-set m d mode map depth) map
 
+pub some-depth : {m d : ℕ} → m < 16 → (m ≡ pce-sprite → ⊥) → T (hasDepth m d) → 0 < d
+some-depth {m} {d} mode map depth = bits-some (is-set m d mode map depth)
+
 span : (n : ℕ) → T (isSpan n) → (0 < n) × (n ≤ 64)
 span n t = (ltb→lt 0 n (both-left (ltb 0 n) (leb n 64) t), leb→le n 64 (both-right (ltb 0 n) (leb n 64) t))
 
@@ -86,7 +89,7 @@ size-of m d columns rows z =
       map = map;
       depth = depth;
       deep = is-set m d mode map depth .deep;
-      shallow = bits-some (is-set m d mode map depth);
+      shallow = some-depth mode map depth;
       some = across .0;
       narrow = across .1;
       tall = down .0;

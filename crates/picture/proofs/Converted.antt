@@ -73,11 +73,11 @@ module _ (w h : ℕ) (some : 0 < w) (z : Settings) (pixels : List ℕ) where
   unfolding foundAt storedOf pictureTiles kept
   found-taken i lt =
       ap (lookUp (z .flip) w h (storedOf w h z pixels)) (tile-is i lt)
-      ∙ found-final (z .discard) (z .flip) (z .depth) w h (z .columns) pixels [] 0 some (places z) i (omega arith) lt
+      ∙ found-final (z .discard) (z .flip) (z .depth) w h (z .columns) pixels [] some (places z) i lt
 
   pub is-found : (i : ℕ) → i < places z → isFound (foundAt w h z pixels i) ≡ true
   unfolding kept
-  is-found i lt = ap isFound (found-taken i lt) ∙ found-here (z .discard) (z .flip) (z .depth) w h (z .columns) pixels [] 0 some i (omega arith)
+  is-found i lt = ap isFound (found-taken i lt) ∙ found-here (z .discard) (z .flip) (z .depth) w h (z .columns) pixels [] some i
 
   -- ---- counts
 
@@ -90,35 +90,44 @@ module _ (w h : ℕ) (some : 0 < w) (z : Settings) (pixels : List ℕ) where
   stored-discarded =
       ap (λ (n : ℕ). n + discardedOf w h z pixels) stored-need ∙ need-discarded (z .flip) w h (z .discard) (pictureTiles w h z pixels) ∙ length-tiles
 
+-- ---- entries
+
+-- what a look-up among tiles that the entries can name finds, as an entry
+module _ {z : Settings} {len : ℕ} (s : IsPicture z len) (tiles : List (List ℕ)) (t : List ℕ) (room : length tiles ≤ 2 ^ row (z .mode) .tile) where
+  fits-case : (r : Found) → lookUp (z .flip) 8 8 tiles t ≡ r → Fitting (z .mode) (entryFor (z .mode) 8 8 (z .palette) r)
+  fits-case (At k f) e =
+      let told = look-told (z .flip) 8 8 t tiles e in
+      let flips = flip-fits (z .flip) (row (z .mode) .flips) f (s .flips) (told .1 .0) in
+      record {
+        tile = subst (λ (n : ℕ). n < 2 ^ row (z .mode) .tile) (sym (first-8 (z .mode) (k .0))) (lt-of-lt-of-le (told .0) room);
+        palette = s .palette;
+        h = flips .0;
+        v = flips .1;
+        priority = pow-pos (row (z .mode) .priority);
+      }
+  fits-case Nothing e =
+      record {
+        tile = pow-pos (row (z .mode) .tile);
+        palette = s .palette;
+        h = pow-pos (row (z .mode) .flips);
+        v = pow-pos (row (z .mode) .flips);
+        priority = pow-pos (row (z .mode) .priority);
+      }
+
+  pub look-fits : IsEntry (z .mode) (entryFor (z .mode) 8 8 (z .palette) (lookUp (z .flip) 8 8 tiles t))
+  look-fits =
+      record {
+        mode = s .mode;
+        map = s .map;
+        fits = fits-all (z .mode) (entryFor (z .mode) 8 8 (z .palette) (lookUp (z .flip) 8 8 tiles t)) (fits-case (lookUp (z .flip) 8 8 tiles t) refl);
+      }
+
+pub found-fits : (z : Settings) (pixels : List ℕ) → IsPicture z (length pixels) → length (storedOf 8 8 z pixels) ≤ 2 ^ row (z .mode) .tile
+    → (i : ℕ) → IsEntry (z .mode) (entryFor (z .mode) 8 8 (z .palette) (foundAt 8 8 z pixels i))
+unfolding foundAt
+found-fits z pixels s room i = look-fits s (storedOf 8 8 z pixels) (getD (pictureTiles 8 8 z pixels) i []) room
+
 module _ (z : Settings) (pixels : List ℕ) where
-  -- ---- entries
-
-  module _ (s : IsPicture z (length pixels)) (room : length (storedOf 8 8 z pixels) ≤ 2 ^ row (z .mode) .tile) where
-    fits-case : (i : ℕ) (r : Found) → foundAt 8 8 z pixels i ≡ r → Fitting (z .mode) (entryFor (z .mode) 8 8 (z .palette) r)
-    unfolding foundAt
-    fits-case i (At k f) e =
-        let told = look-told (z .flip) 8 8 (getD (pictureTiles 8 8 z pixels) i []) (storedOf 8 8 z pixels) e in
-        let flips = flip-fits (z .flip) (row (z .mode) .flips) f (s .flips) (told .1 .0) in
-        record {
-          tile = subst (λ (n : ℕ). n < 2 ^ row (z .mode) .tile) (sym (first-8 (z .mode) (k .0))) (lt-of-lt-of-le (told .0) room);
-          palette = s .palette;
-          h = flips .0;
-          v = flips .1;
-          priority = pow-pos (row (z .mode) .priority);
-        }
-    fits-case i Nothing e =
-        record {
-          tile = pow-pos (row (z .mode) .tile);
-          palette = s .palette;
-          h = pow-pos (row (z .mode) .flips);
-          v = pow-pos (row (z .mode) .flips);
-          priority = pow-pos (row (z .mode) .priority);
-        }
-
-    pub found-fits : (i : ℕ) → IsEntry (z .mode) (entryFor (z .mode) 8 8 (z .palette) (foundAt 8 8 z pixels i))
-    found-fits i =
-        record { mode = s .mode; map = s .map; fits = fits-all (z .mode) (entryFor (z .mode) 8 8 (z .palette) (foundAt 8 8 z pixels i)) (fits-case i (foundAt 8 8 z pixels i) refl) }
-
   -- ---- bytes
 
   pub tile-bytes-length : IsPicture z (length pixels) → length (tileBytes z pixels) ≡ length (storedOf 8 8 z pixels) * (z .depth * 8)

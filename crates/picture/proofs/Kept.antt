@@ -7,9 +7,9 @@ use mathlib.Core.Logic.{⊎-elim}
 use Prim.Native.Nat.{ℕ, zero, suc, _*_, _^_, _<_, _≤_}
 use native.Mathlib.Nat.{eq-or-lt-of-le, le-of-suc-le-suc, not-suc-le-zero, mod-lt}
 use native.Mathlib.Omega.{arith}
-use lib.ListN.{length, getD, drop, drop-of-length-le, length-append, List·getD-append}
+use lib.ListN.{length, getD, length-append, List·getD-append}
 use lib.Pow.{pow-pos}
-use lib.Seq.{getD-append-seam, drop-append-le}
+use lib.Seq.{getD-append-seam}
 use Rattle.words.specs.Loops.{each}
 use Rattle.words.proofs.Items.{length-ones}
 use Rattle.tileset.specs.Finding.{lookUp, isFound}
@@ -59,50 +59,46 @@ all-next : (discard on : Bool) (w h : ℕ) (st ts : List (List ℕ)) (t : List �
 all-next discard on w h st [] t = refl
 all-next discard on w h st (u ∷ ts) t = all-next discard on w h (keep discard on w h st u) ts t
 
--- from tile first on, after the tiles that are there already
-module _ (discard on : Bool) (d w h columns : ℕ) (pixels : List ℕ) (had : List (List ℕ)) (first : ℕ) where
+-- after the tiles that are there already
+module _ (discard on : Bool) (d w h columns : ℕ) (pixels : List ℕ) (had : List (List ℕ)) where
   abbrev tileAt : ℕ → List ℕ
   tileAt i = cutTile d w h columns pixels i
 
   -- the stored tiles up to tile n
   abbrev after : ℕ → List (List ℕ)
-  after n = keepAll discard on w h had (drop first (cutTiles d w h columns pixels n))
+  after n = keepAll discard on w h had (cutTiles d w h columns pixels n)
 
-  pub after-none : after first ≡ had
-  after-none =
-      let ts = cutTiles d w h columns pixels first in
-      ap (keepAll discard on w h had) (drop-of-length-le ts {i = first} (omega (arith, length-cutTiles d w h columns pixels first)))
-
-  pub after-next : (n : ℕ) → first ≤ n → after (suc n) ≡ keep discard on w h (after n) (tileAt n)
+  pub after-none : after 0 ≡ had
   unfolding cutTiles
-  after-next n le =
-      let ts = cutTiles d w h columns pixels n in
-      ap (keepAll discard on w h had) (drop-append-le first ts (tileAt n ∷ []) (omega (arith, length-cutTiles d w h columns pixels n)))
-      ∙ all-next discard on w h had (drop first ts) (tileAt n)
+  after-none = refl
 
-  pub kept-grows : (n i : ℕ) → first ≤ i → i ≤ n → length (after i) ≤ length (after n)
-  kept-grows zero i from le = let q : i ≡ 0 = omega arith in rw q (omega arith)
-  kept-grows (suc n) i from le =
+  pub after-next : (n : ℕ) → after (suc n) ≡ keep discard on w h (after n) (tileAt n)
+  unfolding cutTiles
+  after-next n = all-next discard on w h had (cutTiles d w h columns pixels n) (tileAt n)
+
+  pub kept-grows : (n i : ℕ) → i ≤ n → length (after i) ≤ length (after n)
+  kept-grows zero i le = let q : i ≡ 0 = omega arith in rw q (omega arith)
+  kept-grows (suc n) i le =
       ⊎-elim (λ (q : i ≡ suc n). rw q (omega arith))
       (λ (l : i < suc n).
-      omega (arith, kept-grows n i from (le-of-suc-le-suc l), ap (λ (x : List (List ℕ)). length x) (after-next n (omega arith)), keep-grows discard on w h (after n) (tileAt n)))
+      omega (arith, kept-grows n i (le-of-suc-le-suc l), ap (λ (x : List (List ℕ)). length x) (after-next n), keep-grows discard on w h (after n) (tileAt n)))
       (eq-or-lt-of-le le)
 
   module _ (z : 0 < w) where
-    pub found-here : (i : ℕ) → first ≤ i → isFound (lookUp on w h (after (suc i)) (tileAt i)) ≡ true
-    found-here i from =
-        ap (λ (x : List (List ℕ)). isFound (lookUp on w h x (tileAt i))) (after-next i from)
+    pub found-here : (i : ℕ) → isFound (lookUp on w h (after (suc i)) (tileAt i)) ≡ true
+    found-here i =
+        ap (λ (x : List (List ℕ)). isFound (lookUp on w h x (tileAt i))) (after-next i)
         ∙ keep-self discard on w h z (after i) (tileAt i) (length-cutTile d w h columns pixels i)
 
     -- later tiles do not change where a tile is found
-    pub found-final : (n i : ℕ) → first ≤ i → i < n → lookUp on w h (after n) (tileAt i) ≡ lookUp on w h (after (suc i)) (tileAt i)
-    found-final zero i from lt = absurd (not-suc-le-zero lt)
-    found-final (suc n) i from lt =
+    pub found-final : (n i : ℕ) → i < n → lookUp on w h (after n) (tileAt i) ≡ lookUp on w h (after (suc i)) (tileAt i)
+    found-final zero i lt = absurd (not-suc-le-zero lt)
+    found-final (suc n) i lt =
         ⊎-elim (λ (q : i ≡ n). ap (λ (k : ℕ). lookUp on w h (after (suc k)) (tileAt i)) (sym q))
         (λ (l : i < n).
-        let same = found-final n i from l in
-        ap (λ (x : List (List ℕ)). lookUp on w h x (tileAt i)) (after-next n (omega arith))
-        ∙ found-more discard on w h (after n) (tileAt n) (tileAt i) (ap isFound same ∙ found-here i from)
+        let same = found-final n i l in
+        ap (λ (x : List (List ℕ)). lookUp on w h x (tileAt i)) (after-next n)
+        ∙ found-more discard on w h (after n) (tileAt n) (tileAt i) (ap isFound same ∙ found-here i)
         ∙ same)
         (eq-or-lt-of-le (le-of-suc-le-suc lt))
 

@@ -10,8 +10,7 @@ use lib.Seq.{take-at}
 use Rattle.words.specs.Answers.{firstApplying, unless, overwrite, Wrote}
 use Rattle.words.specs.declared.Written.{Written}
 use Rattle.words.proofs.Answers.{when-done, when-refused}
-use Rattle.tile.specs.Tile.{unpacked}
-use Rattle.tileset.specs.Finding.{lookUp, isFound, cutTo, tilesIn}
+use Rattle.tileset.specs.Finding.{lookUp, isFound, cutTo}
 use Rattle.tileset.specs.Sets.{roomIn, newSet}
 use Rattle.tileset.specs.Writing.{setBytes}
 use Rattle.tileset.specs.Matched.{Apart}
@@ -20,6 +19,7 @@ use Rattle.tileset.specs.History.{setAtEnd, storeAtEnd, accepted as adds, setTi
 use Rattle.tileset.specs.declared.Set.{Set}
 use Rattle.picture.specs.Cells.{cutTile, cutTiles}
 use Rattle.picture.specs.Converting.{places, pictureTiles, storedOf, needOf, discardedOf, tileBytes, foundAt, mapBytes, pictureRoom, sizeSays, askedChecks, convertSays, Converts}
+use Rattle.picture.specs.Continuing.{unpackedTiles}
 use Rattle.picture.specs.Redrawing.{drawn, redrawSays}
 use Rattle.picture.specs.Inner.{askedSays}
 use Rattle.picture.specs.declared.Settings.{Settings}
@@ -121,10 +121,6 @@ front : (n : ℕ) (bytes before after : List ℕ) (k : ℕ) → n ≡ 0 → k �
 front n bytes before after k z e q =
     ap (λ (l : List ℕ). take k l) (q ∙ when-done n (overwrite before bytes) before z)
     ∙ take-at bytes (drop (length bytes) before) k (sym (e ∙ when-done n (length bytes) 0 z))
-
--- so many tiles, unpacked from their bytes
-abbrev pub unpackedTiles : Settings → List ℕ → ℕ → List (List ℕ)
-unpackedTiles z bytes count = map (unpacked (z .mode) (z .depth) 8 8) (tilesIn (z .depth * 8) bytes count)
 
 module _ (z : Settings) (pixels tiles map : List ℕ) (r : Picture) (tilesAfter mapAfter : List ℕ) (done : Done z pixels tiles map r tilesAfter mapAfter) where
   says-0 : convertSays z pixels (length tiles) (length map) ≡ 0

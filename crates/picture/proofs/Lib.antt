@@ -3,12 +3,14 @@ pub mod Cells
 pub mod Kept
 pub mod Converted
 pub mod Taking
+pub mod Tiles
 pub mod Storing
 pub mod Promised
 pub mod RedrawChecks
 pub mod Drawing
 pub mod Redrawn
 pub mod Room
+pub mod Whole
 pub mod Palette
 pub mod Lowest
 pub mod ByAdding

@@ -47,7 +47,7 @@ none-of zero f h = refl
 none-of (suc n) f h = rw (none-of n f (λ i lt. h i (omega arith)), h n (omega arith))
 
 -- a list is another one's items, each taken by f
-ext-in : (f : List ℕ → List ℕ) (xs ys : List (List ℕ)) → length (map f xs) ≡ length ys → ((k : ℕ) → k < length ys → f (getD xs k []) ≡ getD ys k []) → map f xs ≡ ys
+pub ext-in : (f : List ℕ → List ℕ) (xs ys : List (List ℕ)) → length (map f xs) ≡ length ys → ((k : ℕ) → k < length ys → f (getD xs k []) ≡ getD ys k []) → map f xs ≡ ys
 ext-in f [] [] e h = refl
 ext-in f [] (y ∷ ys) e h = absurd (suc-ne-zero (length ys) (sym e))
 ext-in f (x ∷ xs) [] e h = absurd (suc-ne-zero (length (map f xs)) e)

@@ -1,7 +1,13 @@
 // Pictures: conversion into tiles and a map, and redrawing.
+pub mod stored;
+
 use flip::Flip;
+use index::place;
 use mapentry::Mapentry;
 use mode::Mode;
+use stored::find;
+use stored::index_written;
+use stored::read_tile;
 use tileset::Found;
 use tileset::Logical;
 use tileset::Native;
@@ -12,20 +18,19 @@ ghost use mathlib.Core.Bool.{false, _&&_};
 ghost use mathlib.Core.List.{[], _∷_, _++_};
 ghost use Prim.Native.Nat.{_+_, _*_, _%_, _^_, _<_, _≤_};
 ghost use lib.Dec.{leb, eqb};
-ghost use lib.ListN.{length, getD, take, drop};
+ghost use lib.ListN.{length, getD};
 ghost use lib.Seq.{sets};
 ghost use Rattle.words.specs.Answers.{overwrite, Wrote};
 ghost use Rattle.words.specs.Loops.{each, some};
 ghost use Rattle.mode.specs.Table.{row};
-ghost use Rattle.mapentry.specs.Entry.{misfitOf, misfitSays, entryBytes};
-ghost use Rattle.tile.specs.Tile.{packed};
+ghost use Rattle.mapentry.specs.Entry.{misfitOf, misfitSays};
 ghost use Rattle.flip.specs.Flips.{flipped};
-ghost use Rattle.tileset.specs.Finding.{tilesIn};
 ghost use Rattle.picture.specs.Cells.{cutTile};
 ghost use Rattle.picture.specs.Entries.{entryAs, tileNamed};
 ghost use Rattle.picture.specs.Converting.{isSpan, sizeSays, pictureRoom, convertSays, pictured, Converts};
+ghost use Rattle.picture.specs.Continuing.{unpackedTiles, GoesOn};
 ghost use Rattle.picture.specs.Redrawing.{entryAt, drawnTile, drawn, redrawSays};
-ghost use Rattle.picture.specs.Inner.{askedSays, HasTile, codeOf, entryCoded, Keeps, Stores, TakenAs, KeptAs, Gathers, GatheredAs, PutsTiles, PutsMap, PutsPicture, PutAs, HasEntries, DrawsTile, DrawsStrip, Draws, stripOf, pixelLine, PutsLines};
+ghost use Rattle.picture.specs.Inner.{askedSays, CanGoOn, HasTile, tileAt, codeOf, entryCoded, storedTiles, Keeps, Stores, TakenAs, KeptAs, Gathers, GatheredAs, PutsTiles, PutsMap, putTiles, putEntries, PutsPicture, PutAs, HasEntries, DrawsTile, DrawsStrip, Draws, stripOf, pixelLine, PutsLines, goesOnSays};
 
 // What a picture is converted by. Its size is counted in tiles.
 pub struct Settings {
@@ -59,7 +64,7 @@ fn is_span(n: u32) -> bool
 }
 
 // Whether a mode has maps of this size.
-fn size_says(mode: u32, depth: u32, columns: u32, rows: u32) -> u32
+pub fn size_says(mode: u32, depth: u32, columns: u32, rows: u32) -> u32
     ensures { λ r. ⌜ r ≡ sizeSays mode depth columns rows ⌝ }
 {
     if 15 < mode {
@@ -81,7 +86,7 @@ fn size_says(mode: u32, depth: u32, columns: u32, rows: u32) -> u32
 }
 
 // Whether flips are on where there are none.
-fn lacks_flips(m: Mode, flip: bool) -> bool
+pub fn lacks_flips(m: Mode, flip: bool) -> bool
     requires { ⌜ m .0 < 16 ⌝ }
     ensures { λ r. ⌜ r ≡ (flip && eqb (row (m .0) .flips) 0) ⌝ }
 {
@@ -91,7 +96,7 @@ fn lacks_flips(m: Mode, flip: bool) -> bool
     m.flip_bits() == 0
 }
 
-fn palette_says(m: Mode, palette: u32) -> u32
+pub fn palette_says(m: Mode, palette: u32) -> u32
     requires { ⌜ m .0 < 16 ⌝ }
     ensures { λ r. ⌜ r ≡ misfitSays (misfitOf (m .0) (entryAs 0 palette false false)) ⌝ }
 {
@@ -136,7 +141,7 @@ fn asked_says(settings: Settings, len: usize, space: usize) -> u32
     0
 }
 
-fn most_tiles(m: Mode) -> usize
+pub fn most_tiles(m: Mode) -> usize
     requires { ⌜ m .0 < 16 ⌝ }
     ensures { λ r. ⌜ r ≡ 2 ^ row (m .0) .tile ⌝ }
 {
@@ -144,7 +149,7 @@ fn most_tiles(m: Mode) -> usize
 }
 
 // How many tiles a picture may have, in a tile buffer of so many bytes.
-fn picture_room(settings: Settings, len: usize) -> usize
+pub fn picture_room(settings: Settings, len: usize) -> usize
     requires { ⌜ (settings .mode < 16) × (0 < settings .depth) × (settings .depth ≤ 8) ⌝ }
     ensures { λ r. ⌜ r ≡ pictureRoom settings len ⌝ }
 {
@@ -168,7 +173,7 @@ fn cut_eight(depth: u32, pixels: &[u8], from: usize, out: &mut [u8], at: usize)
 }
 
 // Tile i of a picture.
-fn take_tile(depth: u32, pixels: &[u8], columns: usize, i: usize) -> [u8; 64]
+pub fn take_tile(depth: u32, pixels: &[u8], columns: usize, i: usize) -> [u8; 64]
     requires { ⌜ HasTile depth (now pixels) columns i ⌝ }
     ensures { λ r. ⌜ r ≡ cutTile depth 8 8 columns (now (pixels .entry)) i ⌝ }
 {
@@ -197,77 +202,102 @@ enum Taken {
     NoRoom,
 }
 
-// The tile goes at the end, where there is room; its place has this code.
+// Tile i of the picture goes at the end, where there is room; its place has this code.
 fn store_tile(
-    store: &mut [u8; 262144],
+    settings: Settings,
+    pixels: &[u8],
+    tiles: &[u8],
+    held: usize,
+    from: &mut [u16; 4096],
     keys: &mut [u32; 4096],
     heads: &mut [u16; 4096],
     next: &mut [u16; 4096],
     count: usize,
     room: usize,
-    tile: &[u8; 64],
-    key: u32,
-    flips: bool,
+    i: usize,
+    q: u32,
     found: Found,
     code: u16,
 ) -> Taken
-    requires { ⌜ Stores flips (now store) (now keys) (now heads) (now next) count room (now tile) key found ⌝ }
-    ensures { λ r. ⌜ TakenAs flips (tilesIn 64 (now (store .entry)) count ++ now (tile .entry) ∷ []) room code (now (store .exit)) (now (keys .exit)) (now (heads .exit)) (now (next .exit)) r ⌝ }
+    requires { ⌜ Stores settings (now pixels) (now tiles) held (now from) (now keys) (now heads) (now next) count room i q found ⌝ }
+    ensures { λ r. ⌜ TakenAs settings (now (pixels .entry)) (now (tiles .entry)) held (storedTiles settings (now (pixels .entry)) (now (tiles .entry)) held (now (from .entry)) count ++ tileAt settings (now (pixels .entry)) i ∷ []) room code (now (from .exit)) (now (keys .exit)) (now (heads .exit)) (now (next .exit)) r ⌝ }
 {
     if room <= count {
         return Taken::NoRoom;
     }
-    index::enter(store, keys, heads, next, count, tile, key, flips, found);
+    from[count] = i as u16;
+    index::enter(keys, heads, next, count, q, found);
     Taken::Kept(count + 1, code)
 }
 
-// One tile more: it is not stored where discarding is on and a stored one matches.
+// Tile i of the picture: it is not stored where discarding is on and a stored one matches.
 fn keep_tile(
-    store: &mut [u8; 262144],
+    settings: Settings,
+    pixels: &[u8],
+    tiles: &[u8],
+    held: usize,
+    from: &mut [u16; 4096],
     keys: &mut [u32; 4096],
     heads: &mut [u16; 4096],
     next: &mut [u16; 4096],
     count: usize,
     room: usize,
-    tile: &[u8; 64],
-    flips: bool,
-    discard: bool,
+    i: usize,
 ) -> Taken
-    requires { ⌜ Keeps flips (now store) (now keys) (now heads) (now next) count room (now tile) ⌝ }
-    ensures { λ r. ⌜ KeptAs discard flips (tilesIn 64 (now (store .entry)) count) (now (tile .entry)) room (now (store .exit)) (now (keys .exit)) (now (heads .exit)) (now (next .exit)) r ⌝ }
+    requires { ⌜ Keeps settings (now pixels) (now tiles) held (now from) (now keys) (now heads) (now next) count room i ⌝ }
+    ensures { λ r. ⌜ KeptAs settings (now (pixels .entry)) (now (tiles .entry)) held (storedTiles settings (now (pixels .entry)) (now (tiles .entry)) held (now (from .entry)) count) (tileAt settings (now (pixels .entry)) i) room (now (from .exit)) (now (keys .exit)) (now (heads .exit)) (now (next .exit)) r ⌝ }
 {
-    let key = index::key(tile, flips);
-    let found = index::find(store, keys, heads, next, count, tile, key, flips);
+    let tile = take_tile(settings.depth, pixels, settings.columns as usize, i);
+    let q = index::key(&tile, settings.flip);
+    let found = find(
+        settings,
+        pixels,
+        tiles,
+        held,
+        from,
+        keys,
+        heads,
+        next,
+        count,
+        &tile,
+        q,
+    );
     let Found::At(place, f) = found else {
         let last = code(Logical(count as u32), Flip { h: false, v: false });
         return store_tile(
-            store,
+            settings,
+            pixels,
+            tiles,
+            held,
+            from,
             keys,
             heads,
             next,
             count,
             room,
-            tile,
-            key,
-            flips,
+            i,
+            q,
             found,
             last,
         );
     };
     let first = code(place, f);
-    if discard {
+    if settings.discard {
         return Taken::Kept(count, first);
     }
     store_tile(
-        store,
+        settings,
+        pixels,
+        tiles,
+        held,
+        from,
         keys,
         heads,
         next,
         count,
         room,
-        tile,
-        key,
-        flips,
+        i,
+        q,
         found,
         first,
     )
@@ -279,38 +309,38 @@ enum Gathered {
     NoRoom,
 }
 
-// The tiles that are kept of a picture's tiles from first on, up to end, after those that are there already; and the code of each tile's place among them.
+// The tiles that are kept of a picture, after so many that are written; and the code of each tile's place among them.
 fn gather(
     settings: Settings,
     pixels: &[u8],
-    first: usize,
-    end: usize,
-    count: usize,
+    tiles: &[u8],
+    held: usize,
     room: usize,
-    store: &mut [u8; 262144],
+    from: &mut [u16; 4096],
     keys: &mut [u32; 4096],
     heads: &mut [u16; 4096],
     next: &mut [u16; 4096],
     codes: &mut [u16; 4096],
 ) -> Gathered
-    requires { ⌜ Gathers settings (now pixels) first end count room (now store) (now keys) (now heads) (now next) (now codes) ⌝ }
-    ensures { λ r. ⌜ GatheredAs settings (now (pixels .entry)) (tilesIn 64 (now (store .entry)) count) first end room (now (store .exit)) (now (keys .exit)) (now (heads .exit)) (now (next .exit)) (now (codes .exit)) r ⌝ }
+    requires { ⌜ Gathers settings (now pixels) (now tiles) held room (now from) (now keys) (now heads) (now next) (now codes) ⌝ }
+    ensures { λ r. ⌜ GatheredAs settings (now (pixels .entry)) (now (tiles .entry)) held room (now (from .exit)) (now (codes .exit)) r ⌝ }
 {
-    let columns = settings.columns as usize;
-    let mut kept = count;
-    let mut i = first;
+    let end = (settings.columns * settings.rows) as usize;
+    let mut kept = held;
+    let mut i = 0;
     while i < end {
-        let tile = take_tile(settings.depth, pixels, columns, i);
         let Taken::Kept(more, place) = keep_tile(
-            store,
+            settings,
+            pixels,
+            tiles,
+            held,
+            from,
             keys,
             heads,
             next,
             kept,
             room,
-            &tile,
-            settings.flip,
-            settings.discard,
+            i,
         ) else {
             return Gathered::NoRoom;
         };
@@ -321,16 +351,25 @@ fn gather(
     Gathered::Count(kept)
 }
 
-// The bytes of so many stored tiles.
-fn put_tiles(mode: u32, depth: u32, store: &[u8; 262144], count: usize, tiles: &mut [u8])
-    requires { ⌜ PutsTiles mode depth count (now tiles) ⌝ }
-    ensures { λ _. ⌜ now (tiles .exit) ≡ overwrite (now (tiles .entry)) (each count (λ k. packed mode depth 8 8 (take 64 (drop (k * 64) (now (store .entry)))))) ⌝ }
+// The bytes of so many stored tiles more, from tile held on.
+fn put_tiles(
+    settings: Settings,
+    pixels: &[u8],
+    from: &[u16; 4096],
+    held: usize,
+    more: usize,
+    tiles: &mut [u8],
+)
+    requires { ⌜ PutsTiles settings (now pixels) (now from) held more (now tiles) ⌝ }
+    ensures { λ _. ⌜ now (tiles .exit) ≡ sets (now (tiles .entry)) (held * (settings .depth * 8)) (putTiles settings (now (pixels .entry)) (now (from .entry)) held more) ⌝ }
 {
-    let p = tile::packing_of(Mode(mode), depth, 8, 8);
-    let size = (depth * 8) as usize;
+    let p = tile::packing_of(Mode(settings.mode), settings.depth, 8, 8);
+    let size = (settings.depth * 8) as usize;
+    let columns = settings.columns as usize;
     let mut k = 0;
-    while k < count {
-        tile::put_tile(p, store, k * 64, tiles, k * size);
+    while k < more {
+        let tile = take_tile(settings.depth, pixels, columns, place(from[held + k]));
+        tile::put_tile(p, &tile, 0, tiles, (held + k) * size);
         k += 1;
     }
 }
@@ -357,21 +396,26 @@ fn tile_named(mode: u32, e: Mapentry) -> Logical
     tileset::numbers::tile_of(mode, 8, 8, Native(e.tile))
 }
 
-// The bytes of so many entries.
-fn put_map(mode: u32, palette: u32, codes: &[u16; 4096], count: usize, map: &mut [u8])
-    requires { ⌜ PutsMap mode palette count (now codes) (now map) ⌝ }
-    ensures { λ _. ⌜ now (map .exit) ≡ overwrite (now (map .entry)) (each count (λ i. entryBytes mode (entryCoded mode palette (getD (now (codes .entry)) i 0)))) ⌝ }
+// The bytes of so many entries, from entry first of the map on.
+fn put_map(mode: u32, palette: u32, codes: &[u16; 4096], first: usize, count: usize, map: &mut [u8])
+    requires { ⌜ PutsMap mode palette first count (now codes) (now map) ⌝ }
+    ensures { λ _. ⌜ now (map .exit) ≡ sets (now (map .entry)) (first * row mode .entry) (putEntries mode palette (now (codes .entry)) count) ⌝ }
 {
     let m = Mode(mode);
     let size = mapentry::mapentry_size(m);
     let mut i = 0;
     while i < count {
-        mapentry::put_entry(m, entry_coded(mode, palette, codes[i]), map, i * size);
+        mapentry::put_entry(
+            m,
+            entry_coded(mode, palette, codes[i]),
+            map,
+            (first + i) * size,
+        );
         i += 1;
     }
 }
 
-fn no_picture(refusal: u32) -> Picture
+pub fn no_picture(refusal: u32) -> Picture
     ensures { λ r. ⌜ r ≡ pictured refusal 0 0 0 0 ⌝ }
 {
     Picture {
@@ -383,53 +427,73 @@ fn no_picture(refusal: u32) -> Picture
     }
 }
 
-// Both buffers, and the answer.
+// Both buffers, and the answer: the tiles from tile held on, the entries from entry first on, and the counts so far.
 fn put_picture(
     settings: Settings,
-    store: &[u8; 262144],
+    pixels: &[u8],
+    from: &[u16; 4096],
     codes: &[u16; 4096],
+    held: usize,
     count: usize,
+    discarded: usize,
+    first: usize,
     tiles: &mut [u8],
     map: &mut [u8],
 ) -> Picture
-    requires { ⌜ PutsPicture settings count (now codes) (now tiles) (now map) ⌝ }
-    ensures { λ r. ⌜ PutAs settings (now (store .entry)) (now (codes .entry)) count (now (tiles .entry)) (now (map .entry)) r (now (tiles .exit)) (now (map .exit)) ⌝ }
+    requires { ⌜ PutsPicture settings (now pixels) (now from) (now codes) held count discarded first (now tiles) (now map) ⌝ }
+    ensures { λ r. ⌜ PutAs settings (now (pixels .entry)) (now (from .entry)) (now (codes .entry)) held count discarded first (now (tiles .entry)) (now (map .entry)) r (now (tiles .exit)) (now (map .exit)) ⌝ }
 {
     let places = (settings.columns * settings.rows) as usize;
     let size = (settings.depth * 8) as usize;
     let entry = mapentry::mapentry_size(Mode(settings.mode));
-    put_tiles(settings.mode, settings.depth, store, count, tiles);
-    put_map(settings.mode, settings.palette, codes, places, map);
+    put_tiles(settings, pixels, from, held, count - held, tiles);
+    put_map(settings.mode, settings.palette, codes, first, places, map);
     Picture {
         refusal: 0,
         tiles: count as u32,
-        discarded: (places - count) as u32,
+        discarded: discarded as u32,
         tile_bytes: count * size,
-        map_bytes: places * entry,
+        map_bytes: (first + places) * entry,
     }
 }
 
-// The picture of settings that are not refused. Its tiles are gathered first, so that want of room leaves every lent byte as it was: 264 KiB of
-// stack, and 32 for their index.
-fn convert_asked(settings: Settings, pixels: &[u8], tiles: &mut [u8], map: &mut [u8]) -> Picture
-    requires { ⌜ askedSays settings (length (now pixels)) (length (now map)) ≡ 0 ⌝ }
-    ensures { λ r. ⌜ Converts (convertSays settings (now (pixels .entry)) (length (now (tiles .entry))) (length (now (map .entry)))) settings (now (pixels .entry)) (now (tiles .entry)) (now (map .entry)) r (now (tiles .exit)) (now (map .exit)) ⌝ }
+// Goes on with a picture: held tiles and first entries are written already, and so many tiles were discarded. The checks that count no tiles
+// have passed. Its own tiles are gathered before a lent byte is written, so that a refusal leaves all as it was: 48 KiB of stack.
+pub fn go_on(
+    settings: Settings,
+    pixels: &[u8],
+    held: usize,
+    discarded: u32,
+    first: usize,
+    tiles: &mut [u8],
+    map: &mut [u8],
+) -> Picture
+    requires { ⌜ CanGoOn settings held first (length (now pixels)) (length (now tiles)) (length (now map)) ⌝ }
+    ensures { λ r. ⌜ GoesOn (goesOnSays settings (now (pixels .entry)) (unpackedTiles settings (now (tiles .entry)) held) discarded (length (now (tiles .entry)))) settings (now (pixels .entry)) (unpackedTiles settings (now (tiles .entry)) held) discarded first (now (tiles .entry)) (now (map .entry)) r (now (tiles .exit)) (now (map .exit)) ⌝ }
 {
-    let mut store = [0u8; 262144];
+    let mut from = [0u16; 4096];
     let mut keys = [0u32; 4096];
     let mut heads = [0u16; 4096];
     let mut next = [0u16; 4096];
     let mut codes = [0u16; 4096];
     let room = picture_room(settings, tiles.len());
-    let end = (settings.columns * settings.rows) as usize;
+    index_written(
+        settings,
+        pixels,
+        tiles,
+        held,
+        &from,
+        &mut keys,
+        &mut heads,
+        &mut next,
+    );
     let Gathered::Count(count) = gather(
         settings,
         pixels,
-        0,
-        end,
-        0,
+        tiles,
+        held,
         room,
-        &mut store,
+        &mut from,
         &mut keys,
         &mut heads,
         &mut next,
@@ -437,11 +501,26 @@ fn convert_asked(settings: Settings, pixels: &[u8], tiles: &mut [u8], map: &mut 
     ) else {
         return no_picture(refusal::ROOM);
     };
-    put_picture(settings, &store, &codes, count, tiles, map)
+    let places = (settings.columns * settings.rows) as usize;
+    let total = discarded as usize + (held + places - count);
+    if 4294967295 < total {
+        return no_picture(refusal::DISCARDED);
+    }
+    put_picture(
+        settings,
+        pixels,
+        &from,
+        &codes,
+        held,
+        count,
+        total,
+        first,
+        tiles,
+        map,
+    )
 }
 
-// Converts a picture. What is refused by its settings and lengths takes none of a conversion's stack: the two calls keep the compiler from making
-// one function of this and what it calls.
+// Converts a picture: it goes on after nothing. What is refused by its settings and lengths takes none of that stack.
 pub fn convert(settings: Settings, pixels: &[u8], tiles: &mut [u8], map: &mut [u8]) -> Picture
     ensures { λ r. ⌜ Converts (convertSays settings (now (pixels .entry)) (length (now (tiles .entry))) (length (now (map .entry)))) settings (now (pixels .entry)) (now (tiles .entry)) (now (map .entry)) r (now (tiles .exit)) (now (map .exit)) ⌝ }
 {
@@ -449,10 +528,7 @@ pub fn convert(settings: Settings, pixels: &[u8], tiles: &mut [u8], map: &mut [u
     if number != 0 {
         return no_picture(number);
     }
-    if settings.flip {
-        return convert_asked(settings, pixels, tiles, map);
-    }
-    convert_asked(settings, pixels, tiles, map)
+    go_on(settings, pixels, 0, 0, 0, tiles, map)
 }
 
 // Whether one of so many entries names a tile that is not among so many.
@@ -524,9 +600,13 @@ fn draw_tile(mode: u32, depth: u32, tiles: &[u8], e: Mapentry, out: &mut [u8], a
     ensures { λ _. ⌜ now (out .exit) ≡ sets (now (out .entry)) at (drawnTile mode depth (now (tiles .entry)) e) ⌝ }
 {
     let mut tile = [0u8; 64];
-    let p = tile::packing_of(Mode(mode), depth, 8, 8);
-    let from = tile_named(mode, e).0 as usize * (depth * 8) as usize;
-    tile::put_pixels(p, tiles, from, &mut tile, 0);
+    read_tile(
+        mode,
+        depth,
+        tiles,
+        tile_named(mode, e).0 as usize,
+        &mut tile,
+    );
     put_flipped(
         &tile,
         Flip {

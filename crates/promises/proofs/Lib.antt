@@ -1,2 +1,3 @@
+pub mod StripTake
 pub mod OneResult
 pub mod Examples

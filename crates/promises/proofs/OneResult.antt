@@ -3,166 +3,190 @@
 -- Assumes nothing.
 use mathlib.Core.Path.{sym, _∙_}
 use denote.Ref.{now}
-use Rattle.words.proofs.Results.{OneResult, OneContent, one-answer, one-content}
+use Rattle.words.proofs.Results.{OneResult, OneContent, OneLent, one-answer, one-content}
 use Rattle.rumchivoat.proofs.rumchivoat_interface.Reads as interface
-use Rattle.rumchivoat.proofs.rumchivoat_interface.Kinds as interface-kinds
+use Rattle.rumchivoat.proofs.rumchivoat_interface as interface-call
 use Rattle.rumchivoat.proofs.rumchivoat_pack_tile.Reads as pack-tile
-use Rattle.rumchivoat.proofs.rumchivoat_pack_tile.Kinds as pack-tile-kinds
+use Rattle.rumchivoat.proofs.rumchivoat_pack_tile as pack-tile-call
 use Rattle.rumchivoat.proofs.rumchivoat_unpack_tile.Reads as unpack-tile
-use Rattle.rumchivoat.proofs.rumchivoat_unpack_tile.Kinds as unpack-tile-kinds
+use Rattle.rumchivoat.proofs.rumchivoat_unpack_tile as unpack-tile-call
 use Rattle.rumchivoat.proofs.rumchivoat_pack_colors.Reads as pack-colors
-use Rattle.rumchivoat.proofs.rumchivoat_pack_colors.Kinds as pack-colors-kinds
+use Rattle.rumchivoat.proofs.rumchivoat_pack_colors as pack-colors-call
 use Rattle.rumchivoat.proofs.rumchivoat_unpack_colors.Reads as unpack-colors
-use Rattle.rumchivoat.proofs.rumchivoat_unpack_colors.Kinds as unpack-colors-kinds
+use Rattle.rumchivoat.proofs.rumchivoat_unpack_colors as unpack-colors-call
 use Rattle.rumchivoat.proofs.rumchivoat_reduce_channel.Reads as reduce-channel
-use Rattle.rumchivoat.proofs.rumchivoat_reduce_channel.Kinds as reduce-channel-kinds
+use Rattle.rumchivoat.proofs.rumchivoat_reduce_channel as reduce-channel-call
 use Rattle.rumchivoat.proofs.rumchivoat_scale_up.Reads as scale-up
-use Rattle.rumchivoat.proofs.rumchivoat_scale_up.Kinds as scale-up-kinds
+use Rattle.rumchivoat.proofs.rumchivoat_scale_up as scale-up-call
 use Rattle.rumchivoat.proofs.rumchivoat_pack_entry.Reads as pack-entry
-use Rattle.rumchivoat.proofs.rumchivoat_pack_entry.Kinds as pack-entry-kinds
+use Rattle.rumchivoat.proofs.rumchivoat_pack_entry as pack-entry-call
 use Rattle.rumchivoat.proofs.rumchivoat_unpack_entry.Reads as unpack-entry
-use Rattle.rumchivoat.proofs.rumchivoat_unpack_entry.Kinds as unpack-entry-kinds
+use Rattle.rumchivoat.proofs.rumchivoat_unpack_entry as unpack-entry-call
 use Rattle.rumchivoat.proofs.rumchivoat_tile_index.Reads as tile-index
-use Rattle.rumchivoat.proofs.rumchivoat_tile_index.Kinds as tile-index-kinds
+use Rattle.rumchivoat.proofs.rumchivoat_tile_index as tile-index-call
 use Rattle.rumchivoat.proofs.rumchivoat_attribute.Reads as attribute
-use Rattle.rumchivoat.proofs.rumchivoat_attribute.Kinds as attribute-kinds
+use Rattle.rumchivoat.proofs.rumchivoat_attribute as attribute-call
 use Rattle.rumchivoat.proofs.rumchivoat_set_new.Reads as set-new
-use Rattle.rumchivoat.proofs.rumchivoat_set_new.Kinds as set-new-kinds
+use Rattle.rumchivoat.proofs.rumchivoat_set_new as set-new-call
 use Rattle.rumchivoat.proofs.rumchivoat_set_reset.Reads as set-reset
-use Rattle.rumchivoat.proofs.rumchivoat_set_reset.Kinds as set-reset-kinds
+use Rattle.rumchivoat.proofs.rumchivoat_set_reset as set-reset-call
 use Rattle.rumchivoat.proofs.rumchivoat_set_look_up.Reads as set-look-up
-use Rattle.rumchivoat.proofs.rumchivoat_set_look_up.Kinds as set-look-up-kinds
+use Rattle.rumchivoat.proofs.rumchivoat_set_look_up as set-look-up-call
 use Rattle.rumchivoat.proofs.rumchivoat_set_add.Reads as set-add
-use Rattle.rumchivoat.proofs.rumchivoat_set_add.Kinds as set-add-kinds
+use Rattle.rumchivoat.proofs.rumchivoat_set_add as set-add-call
 use Rattle.rumchivoat.proofs.rumchivoat_set_write.Reads as set-write
-use Rattle.rumchivoat.proofs.rumchivoat_set_write.Kinds as set-write-kinds
+use Rattle.rumchivoat.proofs.rumchivoat_set_write as set-write-call
 use Rattle.rumchivoat.proofs.rumchivoat_set_read.Reads as set-read
-use Rattle.rumchivoat.proofs.rumchivoat_set_read.Kinds as set-read-kinds
+use Rattle.rumchivoat.proofs.rumchivoat_set_read as set-read-call
 use Rattle.rumchivoat.proofs.rumchivoat_native_number.Reads as native-number
-use Rattle.rumchivoat.proofs.rumchivoat_native_number.Kinds as native-number-kinds
+use Rattle.rumchivoat.proofs.rumchivoat_native_number as native-number-call
 use Rattle.rumchivoat.proofs.rumchivoat_logical_number.Reads as logical-number
-use Rattle.rumchivoat.proofs.rumchivoat_logical_number.Kinds as logical-number-kinds
+use Rattle.rumchivoat.proofs.rumchivoat_logical_number as logical-number-call
 use Rattle.rumchivoat.proofs.rumchivoat_title_look_up.Reads as title-look-up
-use Rattle.rumchivoat.proofs.rumchivoat_title_look_up.Kinds as title-look-up-kinds
+use Rattle.rumchivoat.proofs.rumchivoat_title_look_up as title-look-up-call
 use Rattle.rumchivoat.proofs.rumchivoat_title_add.Reads as title-add
-use Rattle.rumchivoat.proofs.rumchivoat_title_add.Kinds as title-add-kinds
+use Rattle.rumchivoat.proofs.rumchivoat_title_add as title-add-call
 use Rattle.rumchivoat.proofs.rumchivoat_convert.Reads as convert
-use Rattle.rumchivoat.proofs.rumchivoat_convert.Kinds as convert-kinds
+use Rattle.rumchivoat.proofs.rumchivoat_convert as convert-call
 use Rattle.rumchivoat.proofs.rumchivoat_redraw.Reads as redraw
-use Rattle.rumchivoat.proofs.rumchivoat_redraw.Kinds as redraw-kinds
+use Rattle.rumchivoat.proofs.rumchivoat_redraw as redraw-call
+use Rattle.rumchivoat.proofs.rumchivoat_strip_start.Reads as strip-start
+use Rattle.rumchivoat.proofs.rumchivoat_strip_start as strip-start-call
+use Rattle.promises.proofs.StripTake as strip-take
+use Rattle.rumchivoat.proofs.rumchivoat_strip_take as strip-take-call
+use Rattle.rumchivoat.proofs.rumchivoat_strip_end.Reads as strip-end
+use Rattle.rumchivoat.proofs.rumchivoat_strip_end as strip-end-call
 use Rattle.rumchivoat.proofs.rumchivoat_run.Reads as run
-use Rattle.rumchivoat.proofs.rumchivoat_run.Kinds as run-kinds
+use Rattle.rumchivoat.proofs.rumchivoat_run as run-call
 
-pub interface-result : OneResult 0 interface-kinds.ps interface-kinds.r interface.Post
+pub interface-result : OneResult interface-call.ended interface.Post
 interface-result κs a x y s t p q = p ∙ sym q
 
-pub pack-tile-result : OneResult 2 pack-tile-kinds.ps pack-tile-kinds.r pack-tile.Post
+pub pack-tile-result : OneResult pack-tile-call.ended pack-tile.Post
 pack-tile-result κs a x y s t p q = one-answer p q
 
-pub pack-tile-content : OneContent 2 pack-tile-kinds.ps pack-tile-kinds.r pack-tile.Post (λ κs s. now (s .1 .1 .1 .1 .1 .0))
+pub pack-tile-content : OneContent pack-tile-call.ended pack-tile.Post (λ κs s. now (s .1 .1 .1 .1 .1 .0))
 pack-tile-content κs a x y s t p q = one-content p q
 
-pub unpack-tile-result : OneResult 2 unpack-tile-kinds.ps unpack-tile-kinds.r unpack-tile.Post
+pub unpack-tile-result : OneResult unpack-tile-call.ended unpack-tile.Post
 unpack-tile-result κs a x y s t p q = one-answer p q
 
-pub unpack-tile-content : OneContent 2 unpack-tile-kinds.ps unpack-tile-kinds.r unpack-tile.Post (λ κs s. now (s .1 .1 .1 .1 .1 .0))
+pub unpack-tile-content : OneContent unpack-tile-call.ended unpack-tile.Post (λ κs s. now (s .1 .1 .1 .1 .1 .0))
 unpack-tile-content κs a x y s t p q = one-content p q
 
-pub pack-colors-result : OneResult 2 pack-colors-kinds.ps pack-colors-kinds.r pack-colors.Post
+pub pack-colors-result : OneResult pack-colors-call.ended pack-colors.Post
 pack-colors-result κs a x y s t p q = one-answer p q
 
-pub pack-colors-content : OneContent 2 pack-colors-kinds.ps pack-colors-kinds.r pack-colors.Post (λ κs s. now (s .1 .1 .0))
+pub pack-colors-content : OneContent pack-colors-call.ended pack-colors.Post (λ κs s. now (s .1 .1 .0))
 pack-colors-content κs a x y s t p q = one-content p q
 
-pub unpack-colors-result : OneResult 2 unpack-colors-kinds.ps unpack-colors-kinds.r unpack-colors.Post
+pub unpack-colors-result : OneResult unpack-colors-call.ended unpack-colors.Post
 unpack-colors-result κs a x y s t p q = one-answer p q
 
-pub unpack-colors-content : OneContent 2 unpack-colors-kinds.ps unpack-colors-kinds.r unpack-colors.Post (λ κs s. now (s .1 .1 .0))
+pub unpack-colors-content : OneContent unpack-colors-call.ended unpack-colors.Post (λ κs s. now (s .1 .1 .0))
 unpack-colors-content κs a x y s t p q = one-content p q
 
-pub reduce-channel-result : OneResult 0 reduce-channel-kinds.ps reduce-channel-kinds.r reduce-channel.Post
+pub reduce-channel-result : OneResult reduce-channel-call.ended reduce-channel.Post
 reduce-channel-result κs a x y s t p q = p ∙ sym q
 
-pub scale-up-result : OneResult 0 scale-up-kinds.ps scale-up-kinds.r scale-up.Post
+pub scale-up-result : OneResult scale-up-call.ended scale-up.Post
 scale-up-result κs a x y s t p q = p ∙ sym q
 
-pub pack-entry-result : OneResult 1 pack-entry-kinds.ps pack-entry-kinds.r pack-entry.Post
+pub pack-entry-result : OneResult pack-entry-call.ended pack-entry.Post
 pack-entry-result κs a x y s t p q = one-answer p q
 
-pub pack-entry-content : OneContent 1 pack-entry-kinds.ps pack-entry-kinds.r pack-entry.Post (λ κs s. now (s .1 .1 .1 .1 .1 .1 .0))
+pub pack-entry-content : OneContent pack-entry-call.ended pack-entry.Post (λ κs s. now (s .1 .1 .1 .1 .1 .1 .0))
 pack-entry-content κs a x y s t p q = one-content p q
 
-pub unpack-entry-result : OneResult 1 unpack-entry-kinds.ps unpack-entry-kinds.r unpack-entry.Post
+pub unpack-entry-result : OneResult unpack-entry-call.ended unpack-entry.Post
 unpack-entry-result κs a x y s t p q = p ∙ sym q
 
-pub tile-index-result : OneResult 1 tile-index-kinds.ps tile-index-kinds.r tile-index.Post
+pub tile-index-result : OneResult tile-index-call.ended tile-index.Post
 tile-index-result κs a x y s t p q = one-answer p q
 
-pub tile-index-content : OneContent 1 tile-index-kinds.ps tile-index-kinds.r tile-index.Post (λ κs s. now (s .1 .1 .1 .1 .1 .1 .0))
+pub tile-index-content : OneContent tile-index-call.ended tile-index.Post (λ κs s. now (s .1 .1 .1 .1 .1 .1 .0))
 tile-index-content κs a x y s t p q = one-content p q
 
-pub attribute-result : OneResult 0 attribute-kinds.ps attribute-kinds.r attribute.Post
+pub attribute-result : OneResult attribute-call.ended attribute.Post
 attribute-result κs a x y s t p q = p ∙ sym q
 
-pub set-new-result : OneResult 0 set-new-kinds.ps set-new-kinds.r set-new.Post
+pub set-new-result : OneResult set-new-call.ended set-new.Post
 set-new-result κs a x y s t p q = p ∙ sym q
 
-pub set-reset-result : OneResult 0 set-reset-kinds.ps set-reset-kinds.r set-reset.Post
+pub set-reset-result : OneResult set-reset-call.ended set-reset.Post
 set-reset-result κs a x y s t p q = p ∙ sym q
 
-pub set-look-up-result : OneResult 2 set-look-up-kinds.ps set-look-up-kinds.r set-look-up.Post
+pub set-look-up-result : OneResult set-look-up-call.ended set-look-up.Post
 set-look-up-result κs a x y s t p q = p ∙ sym q
 
-pub set-add-result : OneResult 2 set-add-kinds.ps set-add-kinds.r set-add.Post
+pub set-add-result : OneResult set-add-call.ended set-add.Post
 set-add-result κs a x y s t p q = p .answer ∙ sym (q .answer)
 
-pub set-add-content : OneContent 2 set-add-kinds.ps set-add-kinds.r set-add.Post (λ κs s. now (s .1 .0))
+pub set-add-content : OneContent set-add-call.ended set-add.Post (λ κs s. now (s .1 .0))
 set-add-content κs a x y s t p q = p .lent ∙ sym (q .lent)
 
-pub set-write-result : OneResult 2 set-write-kinds.ps set-write-kinds.r set-write.Post
+pub set-write-result : OneResult set-write-call.ended set-write.Post
 set-write-result κs a x y s t p q = one-answer p q
 
-pub set-write-content : OneContent 2 set-write-kinds.ps set-write-kinds.r set-write.Post (λ κs s. now (s .1 .1 .0))
+pub set-write-content : OneContent set-write-call.ended set-write.Post (λ κs s. now (s .1 .1 .0))
 set-write-content κs a x y s t p q = one-content p q
 
-pub set-read-result : OneResult 2 set-read-kinds.ps set-read-kinds.r set-read.Post
+pub set-read-result : OneResult set-read-call.ended set-read.Post
 set-read-result κs a x y s t p q = p .answer ∙ sym (q .answer)
 
-pub set-read-content : OneContent 2 set-read-kinds.ps set-read-kinds.r set-read.Post (λ κs s. now (s .1 .1 .1 .1 .1 .1 .0))
+pub set-read-content : OneContent set-read-call.ended set-read.Post (λ κs s. now (s .1 .1 .1 .1 .1 .1 .0))
 set-read-content κs a x y s t p q = p .lent ∙ sym (q .lent)
 
-pub native-number-result : OneResult 0 native-number-kinds.ps native-number-kinds.r native-number.Post
+pub native-number-result : OneResult native-number-call.ended native-number.Post
 native-number-result κs a x y s t p q = p ∙ sym q
 
-pub logical-number-result : OneResult 0 logical-number-kinds.ps logical-number-kinds.r logical-number.Post
+pub logical-number-result : OneResult logical-number-call.ended logical-number.Post
 logical-number-result κs a x y s t p q = p ∙ sym q
 
-pub title-look-up-result : OneResult 2 title-look-up-kinds.ps title-look-up-kinds.r title-look-up.Post
+pub title-look-up-result : OneResult title-look-up-call.ended title-look-up.Post
 title-look-up-result κs a x y s t p q = p ∙ sym q
 
-pub title-add-result : OneResult 3 title-add-kinds.ps title-add-kinds.r title-add.Post
+pub title-add-result : OneResult title-add-call.ended title-add.Post
 title-add-result κs a x y s t p q = p .answer ∙ sym (q .answer)
 
-pub title-add-content : OneContent 3 title-add-kinds.ps title-add-kinds.r title-add.Post (λ κs s. now (s .1 .1 .1 .0))
+pub title-add-content : OneContent title-add-call.ended title-add.Post (λ κs s. now (s .1 .1 .1 .0))
 title-add-content κs a x y s t p q = p .lent ∙ sym (q .lent)
 
-pub convert-result : OneResult 3 convert-kinds.ps convert-kinds.r convert.Post
+pub convert-result : OneResult convert-call.ended convert.Post
 convert-result κs a x y s t p q = p .answer ∙ sym (q .answer)
 
-pub convert-tiles : OneContent 3 convert-kinds.ps convert-kinds.r convert.Post (λ κs s. now (s .1 .1 .1 .1 .1 .1 .1 .1 .1 .0))
+pub convert-tiles : OneContent convert-call.ended convert.Post (λ κs s. now (s .1 .1 .1 .1 .1 .1 .1 .1 .1 .0))
 convert-tiles κs a x y s t p q = p .lent ∙ sym (q .lent)
 
-pub convert-map : OneContent 3 convert-kinds.ps convert-kinds.r convert.Post (λ κs s. now (s .1 .1 .1 .1 .1 .1 .1 .1 .1 .1 .0))
+pub convert-map : OneContent convert-call.ended convert.Post (λ κs s. now (s .1 .1 .1 .1 .1 .1 .1 .1 .1 .1 .0))
 convert-map κs a x y s t p q = p .alsoLent ∙ sym (q .alsoLent)
 
-pub redraw-result : OneResult 3 redraw-kinds.ps redraw-kinds.r redraw.Post
+pub redraw-result : OneResult redraw-call.ended redraw.Post
 redraw-result κs a x y s t p q = one-answer p q
 
-pub redraw-content : OneContent 3 redraw-kinds.ps redraw-kinds.r redraw.Post (λ κs s. now (s .1 .1 .1 .1 .1 .1 .0))
+pub redraw-content : OneContent redraw-call.ended redraw.Post (λ κs s. now (s .1 .1 .1 .1 .1 .1 .0))
 redraw-content κs a x y s t p q = one-content p q
 
-pub run-result : OneResult 2 run-kinds.ps run-kinds.r run.Post
+pub strip-start-result : OneResult strip-start-call.ended strip-start.Post
+strip-start-result κs a x y s t p q = p ∙ sym q
+
+pub strip-take-result : OneResult strip-take-call.ended strip-take.Post
+strip-take-result κs a x y s t p q = p .converts .answer ∙ sym (q .converts .answer)
+
+pub strip-take-record : OneLent strip-take-call.ended strip-take.Post (λ κs s. now (s .0))
+strip-take-record κs a x y s t p q = p .run ∙ sym (q .run)
+
+pub strip-take-tiles : OneContent strip-take-call.ended strip-take.Post (λ κs s. now (s .1 .1 .0))
+strip-take-tiles κs a x y s t p q = p .converts .lent ∙ sym (q .converts .lent)
+
+pub strip-take-map : OneContent strip-take-call.ended strip-take.Post (λ κs s. now (s .1 .1 .1 .0))
+strip-take-map κs a x y s t p q = p .converts .alsoLent ∙ sym (q .converts .alsoLent)
+
+pub strip-end-result : OneResult strip-end-call.ended strip-end.Post
+strip-end-result κs a x y s t p q = p ∙ sym q
+
+pub run-result : OneResult run-call.ended run.Post
 run-result κs a x y s t p q = p .answer ∙ sym (q .answer)
 
-pub run-content : OneContent 2 run-kinds.ps run-kinds.r run.Post (λ κs s. now (s .1 .0))
+pub run-content : OneContent run-call.ended run.Post (λ κs s. now (s .1 .0))
 run-content κs a x y s t p q = p .lent ∙ sym (q .lent)

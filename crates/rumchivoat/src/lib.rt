@@ -4,6 +4,8 @@ use mapentry::Entry;
 use mapentry::Mapentry;
 use picture::Picture;
 use picture::Settings;
+use strip::Run;
+use strip::RunAnswer;
 use tileset::Logical;
 use tileset::Native;
 use tileset::Place;
@@ -29,6 +31,7 @@ ghost use Rattle.tileset.specs.Numbers.{nativeSays, firstCell, logicalSays, til
 ghost use Rattle.title.specs.Titles.{titleHeld, AddsToTitle};
 ghost use Rattle.picture.specs.Converting.{convertSays, Converts};
 ghost use Rattle.picture.specs.Redrawing.{redrawSays, drawn};
+ghost use Rattle.strip.specs.Strips.{started, startSays, takeSays, Takes, stepped, endSays, ended};
 ghost use Rattle.sheet.specs.Program.{numberOf, textOf, Ran};
 ghost use Rattle.rumchivoat.specs.Station.{interface, roundingOf, entryFrom, settingsFrom};
 
@@ -37,7 +40,7 @@ ghost use Rattle.rumchivoat.specs.Station.{interface, roundingOf, entryF
 pub extern "C" fn rumchivoat_interface() -> u32
     ensures { λ r. ⌜ r ≡ interface ⌝ }
 {
-    4
+    5
 }
 
 // A native tile: pixels to the mode's bytes.
@@ -359,6 +362,56 @@ pub extern "C" fn rumchivoat_redraw(
     ensures { λ r. ⌜ Wrote (redrawSays mode depth columns rows (now (tiles .entry)) (now (map .entry)) (length (now (out .entry)))) (drawn mode depth columns rows (now (tiles .entry)) (now (map .entry))) (now (out .entry)) r (now (out .exit)) ⌝ }
 {
     picture::redraw(mode, depth, columns, rows, tiles, map, out)
+}
+
+// A picture that comes in strips: a run starts with the settings.
+#[no_mangle]
+pub extern "C" fn rumchivoat_strip_start(
+    mode: u32,
+    depth: u32,
+    flip: bool,
+    discard: bool,
+    limit: u32,
+    palette: u32,
+    columns: u32,
+    rows: u32,
+) -> RunAnswer
+    ensures { λ r. ⌜ r ≡ started (startSays (settingsFrom mode depth flip discard limit palette columns rows)) (settingsFrom mode depth flip discard limit palette columns rows) ⌝ }
+{
+    let settings = Settings {
+        mode,
+        depth,
+        flip,
+        discard,
+        limit,
+        palette,
+        columns,
+        rows,
+    };
+    strip::start(settings)
+}
+
+// A strip of its tile rows, one or more: the record is updated in place.
+#[no_mangle]
+pub extern "C" fn rumchivoat_strip_take(
+    run: &mut Run,
+    pixels: &[u8],
+    tiles: &mut [u8],
+    map: &mut [u8],
+) -> Picture
+    ensures { λ r. ⌜ Takes (takeSays (now (run .entry)) (now (pixels .entry)) (now (tiles .entry)) (length (now (map .entry)))) (now (run .entry)) (now (pixels .entry)) (now (tiles .entry)) (now (map .entry)) (stepped r (now (run .exit))) (now (tiles .exit)) (now (map .exit)) ⌝ }
+{
+    let s = strip::take(*run, pixels, tiles, map);
+    *run = s.run;
+    s.picture
+}
+
+// Its end, when all rows have come.
+#[no_mangle]
+pub extern "C" fn rumchivoat_strip_end(run: Run) -> Picture
+    ensures { λ r. ⌜ r ≡ ended (endSays run) run ⌝ }
+{
+    strip::end(run)
 }
 
 // The program on slices: all that it would write for an input.

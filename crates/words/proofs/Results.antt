@@ -3,21 +3,31 @@
 use mathlib.Core.Path.{_≡_, sym, _∙_}
 use mathlib.Core.List.{List}
 use Prim.Native.Nat.{ℕ}
-use borrow.Fn.Kinds.{PK, RK, Out, Dens, resT, endedOf}
 use contract.Lifetimes.{Lfts}
-use denote.Triple.Clauses.{AtExit}
+use denote.Triple.Clauses.{Ended, AtExit}
+use denote.Triple.Entry.{Args, Res}
 use Rattle.words.specs.Answers.{Wrote}
 use Rattle.words.specs.declared.Written.{Written}
 
--- any two results that meet the promise are equal
-abbrev pub OneResult : (n : ℕ) (ps : List (PK n)) (r : RK n) → Out n ps r → Type 0
-OneResult n ps r promise =
-    (κs : Lfts n) (a : Dens κs ps) (x y : resT r κs .Denot) (s t : AtExit (endedOf n ps r) κs) → promise κs a x s → promise κs a y t → x ≡ y
+-- a promise of a function: what it says of the arguments, the result and the parameters at exit
+abbrev pub Promise : Ended → Type 1
+Promise f = (κs : Lfts (f .signature .lifetimes)) → Args (f .signature) κs → Res (f .signature) κs → AtExit f κs → Type 0
 
--- and so is what `lent` reads of the parameters at exit
-abbrev pub OneContent : (n : ℕ) (ps : List (PK n)) (r : RK n) → Out n ps r → ((κs : Lfts n) → AtExit (endedOf n ps r) κs → List ℕ) → Type 0
-OneContent n ps r promise lent =
-    (κs : Lfts n) (a : Dens κs ps) (x y : resT r κs .Denot) (s t : AtExit (endedOf n ps r) κs) → promise κs a x s → promise κs a y t → lent κs s ≡ lent κs t
+module _ (f : Ended) (promise : Promise f) where
+  -- any two results that meet the promise are equal
+  abbrev pub OneResult : Type 0
+  OneResult =
+      (κs : Lfts (f .signature .lifetimes)) (a : Args (f .signature) κs) (x y : Res (f .signature) κs) (s t : AtExit f κs)
+      → promise κs a x s → promise κs a y t → x ≡ y
+
+  -- and so is what `lent` reads of the parameters at exit: a record, or the bytes of a slice
+  abbrev pub OneLent : {A : Type 0} → ((κs : Lfts (f .signature .lifetimes)) → AtExit f κs → A) → Type 0
+  OneLent lent =
+      (κs : Lfts (f .signature .lifetimes)) (a : Args (f .signature) κs) (x y : Res (f .signature) κs) (s t : AtExit f κs)
+      → promise κs a x s → promise κs a y t → lent κs s ≡ lent κs t
+
+  abbrev pub OneContent : ((κs : Lfts (f .signature .lifetimes)) → AtExit f κs → List ℕ) → Type 0
+  OneContent lent = OneLent lent
 
 module _ {k : ℕ} {bytes before : List ℕ} {r s : Written} {after final : List ℕ} (p : Wrote k bytes before r after) (q : Wrote k bytes before s final) where
   pub one-answer : r ≡ s

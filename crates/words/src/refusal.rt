@@ -1,5 +1,5 @@
 // What the station is told: the papers' numbers. 0 means done. A call answers the first of its checks that applies; they stand in the order of
-// their numbers, but for 15 to 18, which stand before 11, and 14, before all. 10 is no longer given: 15 to 18 stand in its place.
+// their numbers, but for 15 to 18, which stand before 11, 19, after 6, and 14, before all. 10 is no longer given: 15 to 18 stand in its place.
 // Mode number above 15.
 pub const MODE: u32 = 1;
 
@@ -50,3 +50,6 @@ pub const ENTRY_FLIP: u32 = 17;
 
 // Priority where there is none.
 pub const ENTRY_PRIORITY: u32 = 18;
+
+// A run ended before its picture's last row, or given a strip past it.
+pub const ROWS: u32 = 19;

@@ -3,8 +3,8 @@
 //! `cargo run --release --offline --bin bench` in host/. For each call and mode it prints the median processor time of
 //! one colour, entry or tile on either side, and the ratio: above 1 the port is the faster. Tiles are of each depth,
 //! sprites of the smallest and the largest size; of a set or a title, one add or one look-up; of a picture, one of its
-//! tiles. Two tables more have the port alone: `run` on the largest sheets beside `convert` on their pictures, and a
-//! title's look-up beside the set's over as many tiles.
+//! tiles. Three tables more have the port alone: `run` on the largest sheets beside `convert` on their pictures, a title's
+//! look-up beside the set's over as many tiles, and pictures in strips beside the same pictures at once.
 
 mod pictures;
 mod sets;
@@ -73,6 +73,7 @@ fn main() {
     println!("\nleast ratio: {:.2}, {} in {}", slowest.ratio(), slowest.call, slowest.mode);
     sheets::print_table(&mut random);
     sets::print_table(&mut random);
+    pictures::print_table(&mut random);
 }
 
 fn print_line(line: &Measured) {

@@ -1,16 +1,17 @@
-//! Whole pictures: conversion, and redrawing.
+//! Whole pictures: conversion, at once and in strips, and redrawing.
 //!
 //! The Rust's side of `convert` is its set, its look-up, its entries and its packing, on pixels: the colours that its map
 //! goes through are left out, so that both do the same. `convert, whole` has the Rust as it stands, with its image and
-//! its map. Its redrawing draws colours, for it draws nothing else.
+//! its map. `strips` has the port take the picture of the `convert` line above it in strips of one row of tiles; the Rust
+//! has no strips, and converts it at once. Its redrawing draws colours, for it draws nothing else.
 
 use std::hint::black_box;
 
 use reading::{MODES, Random, Shape};
-use rumchivoat::{MapSize, Mode, Settings, convert, redraw};
+use rumchivoat::{MapSize, Mode, Picture, Run, Settings, convert, redraw};
 use superfamiconv::{pictures, plain};
 
-use crate::{Measured, measured};
+use crate::{Measured, measured, turn_about};
 
 /// What tiles are like.
 #[derive(Clone, Copy)]
@@ -70,6 +71,9 @@ const REDRAWN: [&str; 2] = ["half", "different"];
 /// The side of the pictures that the Rust converts as a whole as well.
 const WHOLE: u32 = 32;
 
+/// The side of those that come in strips as well, a row of tiles at a time.
+const IN_STRIPS: u32 = 64;
+
 impl Case {
     fn row(&self) -> &'static reading::Row {
         &MODES[self.mode.number() as usize]
@@ -78,6 +82,11 @@ impl Case {
     fn text(&self) -> String {
         let Case { mode, depth, side, name, .. } = self;
         format!("{mode} {depth} {side}x{side} {name}")
+    }
+
+    /// Flips off, and on where the mode has them.
+    fn flips(&self) -> &'static [bool] {
+        if self.row().flips { &[false, true] } else { &[false] }
     }
 
     fn settings(&self, flip: bool) -> Settings {
@@ -134,10 +143,9 @@ impl Case {
 
 /// Every case, flips off and on where the mode has them.
 pub fn lines(random: &mut Random) -> impl Iterator<Item = Measured> {
-    CASES.iter().flat_map(|case| {
-        let flips: &[bool] = if case.row().flips { &[false, true] } else { &[false] };
-        flips.iter().flat_map(|&flip| case_lines(case, flip, random)).collect::<Vec<_>>()
-    })
+    CASES
+        .iter()
+        .flat_map(|case| case.flips().iter().flat_map(|&flip| case_lines(case, flip, random)).collect::<Vec<_>>())
 }
 
 fn rust_settings(settings: Settings) -> pictures::Settings {
@@ -154,6 +162,9 @@ fn case_lines(case: &Case, flip: bool, random: &mut Random) -> Vec<Measured> {
     let mut lines = vec![converting(call, case, settings, &pixels, (&tiles, &map), |pixels| {
         black_box(pictures::convert_pixels(theirs, pixels));
     })];
+    if case.side == IN_STRIPS {
+        lines.push(in_strips(case, settings, &pixels, (&tiles, &map)));
+    }
     if flip && case.side == WHOLE {
         let most = pictures::max_tile_count(theirs.mode);
         lines.push(converting("convert, whole", case, settings, &pixels, (&tiles, &map), |pixels| {
@@ -188,6 +199,71 @@ fn converting(
             black_box(convert(settings, pixels, &mut tile_buffer, &mut map_buffer).expect("there is room"));
         },
         || rust(black_box(pixels)),
+    )
+}
+
+/// Takes a picture row by row of its tiles, as from a bus, with one record.
+fn take_rows(settings: Settings, pixels: &[u8], tiles: &mut [u8], map: &mut [u8]) -> Picture {
+    let mut run = Run::start(settings).expect("the settings are good");
+    for strip in pixels.chunks_exact(run.row_len()) {
+        run.take(strip, tiles, map).expect("there is room");
+    }
+    run.end().expect("all rows have come")
+}
+
+/// The port in strips, and the Rust on the whole.
+fn in_strips(case: &Case, settings: Settings, pixels: &[u8], (tiles, map): (&[u8], &[u8])) -> Measured {
+    let theirs = rust_settings(settings);
+    let (mut tile_buffer, mut map_buffer) = (vec![0; tiles.len()], vec![0; map.len()]);
+    take_rows(settings, pixels, &mut tile_buffer, &mut map_buffer);
+    assert!(tile_buffer == tiles && map_buffer == map, "strips of {} come to the whole", case.text());
+    measured(
+        if settings.flip { "strips, flips" } else { "strips" },
+        case.text(),
+        (case.side * case.side) as usize,
+        || {
+            black_box(take_rows(settings, black_box(pixels), &mut tile_buffer, &mut map_buffer));
+        },
+        || {
+            black_box(pictures::convert_pixels(theirs, black_box(pixels)));
+        },
+    )
+}
+
+/// A picture in strips beside the same picture at once. Both are the port's: the Rust has no strips.
+pub fn print_table(random: &mut Random) {
+    println!(
+        "\nthe port alone, no Rust: {IN_STRIPS} strips of one row of tiles, and convert on the same picture; ns for one \
+         tile\n"
+    );
+    println!("{:<37} {:>5} {:>9} {:>9} {:>14}", "picture", "items", "strips", "convert", "strips/convert");
+    for case in CASES.iter().filter(|case| case.side == IN_STRIPS) {
+        for &flip in case.flips() {
+            let (settings, pixels) = (case.settings(flip), case.pixels(flip, random));
+            let items = (case.side * case.side) as usize;
+            let (strips, whole) = beside_the_whole(settings, &pixels, items);
+            let picture = format!("{}{}", case.text(), if flip { ", flips" } else { "" });
+            println!("{picture:<37} {items:>5} {strips:>9.3} {whole:>9.3} {:>14.2}", strips / whole);
+        }
+    }
+}
+
+/// The times for a tile of this picture in strips and at once.
+fn beside_the_whole(settings: Settings, pixels: &[u8], items: usize) -> (f64, f64) {
+    let tile_len = settings.tile_len().expect("the settings are good");
+    let [mut tiles, mut whole_tiles] = [(); 2].map(|()| vec![0; tile_len]);
+    let [mut map, mut whole_map] = [(); 2].map(|()| vec![0; 2 * items]);
+    let taken = take_rows(settings, pixels, &mut tiles, &mut map);
+    let converted = convert(settings, pixels, &mut whole_tiles, &mut whole_map).expect("there is room");
+    assert!(taken == converted && tiles == whole_tiles && map == whole_map, "strips come to the whole");
+    turn_about(
+        items,
+        || {
+            black_box(take_rows(settings, black_box(pixels), &mut tiles, &mut map));
+        },
+        || {
+            black_box(convert(settings, black_box(pixels), &mut whole_tiles, &mut whole_map).expect("there is room"));
+        },
     )
 }
 

@@ -248,6 +248,8 @@ pub struct Export {
     pub name: String,
     /// How many slices it is lent to write.
     pub lent: usize,
+    /// How many records it is lent to write.
+    pub records: usize,
     /// Its contract.
     pub promise: String,
 }
@@ -266,7 +268,8 @@ pub fn exports() -> (Vec<Export>, BTreeMap<String, Place>) {
         let (parameters, promise) = head.split_once("ensures").unwrap_or((head, ""));
         assert!(!head.contains("requires"), "rumchivoat_{name} asks something of its caller");
         let lent = parameters.matches("&mut [").count();
-        found.push(Export { name: name.into(), lent, promise: promise.into() });
+        let records = parameters.matches("&mut ").count() - lent;
+        found.push(Export { name: name.into(), lent, records, promise: promise.into() });
     }
     (found, known)
 }

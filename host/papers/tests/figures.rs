@@ -24,7 +24,7 @@ fn written(number: usize) -> String {
 fn the_stack_is_stated_alike_everywhere() {
     let in_rust = read("host/src/stack.rs");
     let readme = read("README.md");
-    for name in ["CONVERT", "RUN", "OTHERS"] {
+    for name in ["CONVERT", "STRIP", "RUN", "OTHERS"] {
         let bytes = in_header(&format!("STACK_{name}"));
         let kib = bytes / 1024;
         assert_eq!(bytes % 1024, 0, "{HEADER}: STACK_{name} is no whole KiB");

@@ -25,12 +25,13 @@ fn every_export_has_its_theorems() {
         let name = export.name.replace('_', "-");
         let posts = format!(" {name}.Post");
         let of = |kind: &str| stated.iter().filter(|s| s.contains(kind) && s.contains(&posts)).collect::<Vec<_>>();
-        let (results, contents) = (of(": OneResult "), of(": OneContent "));
+        let (results, contents, records) = (of(": OneResult "), of(": OneContent "), of(": OneLent "));
         assert_eq!(results.len(), 1, "rumchivoat_{} has no theorem of one result in {THEOREMS}", export.name);
         assert_eq!(contents.len(), export.lent, "rumchivoat_{}: a theorem for each lent slice", export.name);
+        assert_eq!(records.len(), export.records, "rumchivoat_{}: a theorem for each lent record", export.name);
         let call = format!("`rumchivoat_{}`", export.name);
         let row = listed.iter().find(|row| row[0] == call).unwrap_or_else(|| panic!("{PROMISES} does not list {call}"));
-        for theorem in results.into_iter().chain(contents) {
+        for theorem in results.into_iter().chain(contents).chain(records) {
             let theorem = theorem.trim_start_matches("pub ").split(' ').next().expect("a name");
             assert!(ticked(row.last().expect("a cell")).contains(&theorem.into()), "{PROMISES}, {call}: no {theorem}");
         }

@@ -12,6 +12,7 @@ mod pictures;
 mod random;
 mod sets;
 mod sheets;
+mod strips;
 mod tiles;
 mod titles;
 
@@ -26,6 +27,7 @@ pub use sets::{
     set_sizes, set_write,
 };
 pub use sheets::{KEYS, Text, run};
+pub use strips::{Run, strip_end, strip_start, strip_take};
 pub use tiles::{Shape, native_shapes, pack_tile, unpack_tile};
 pub use titles::{Held, title_add, title_look_up};
 

@@ -41,7 +41,7 @@ pub struct Picture {
 }
 
 /// Refusals 1, 2, 3 and 4: the row of a picture's mode.
-fn picture_row(mode: u32, depth: u32, columns: u32, rows: u32) -> Answer<&'static Row> {
+pub(crate) fn picture_row(mode: u32, depth: u32, columns: u32, rows: u32) -> Answer<&'static Row> {
     let row = row(mode)?;
     if row.name == "pce_sprite" {
         return Err(2);
@@ -57,7 +57,7 @@ fn picture_row(mode: u32, depth: u32, columns: u32, rows: u32) -> Answer<&'stati
 }
 
 /// A picture's tiles are native ones.
-fn tile_shape(mode: u32, depth: u32) -> Shape {
+pub(crate) fn tile_shape(mode: u32, depth: u32) -> Shape {
     Shape { mode, depth, width: 8, height: 8 }
 }
 
@@ -89,13 +89,13 @@ fn need(flip: bool, discard: bool, tiles: &[Vec<u8>]) -> usize {
 }
 
 /// "Room is the least of the limit if not 0, 2^(tile bits), and whole tiles in the tile buffer."
-fn room(row: &Row, settings: Settings, buffer: usize) -> usize {
+pub(crate) fn room(row: &Row, settings: Settings, buffer: usize) -> usize {
     let limit = if settings.limit == 0 { usize::MAX } else { settings.limit as usize };
     let whole = buffer / tile_shape(settings.mode, settings.depth).bytes();
     [limit, 2usize.pow(row.tile_bits), whole].into_iter().min().expect("there are three")
 }
 
-fn entry_of(place: Place, palette: u32) -> Entry {
+pub(crate) fn entry_of(place: Place, palette: u32) -> Entry {
     let Place { place, flip_h, flip_v } = place;
     Entry { tile: place, palette, flip_h, flip_v, priority: false }
 }

@@ -52,6 +52,41 @@ fn same_picture(settings: Settings, pixels: &[u8]) {
     }
 }
 
+/// Cut into strips at random, the picture comes to what the Rust makes of the whole.
+fn same_strips(settings: Settings, pixels: &[u8], random: &mut Random) {
+    let Settings { mode, depth, flip, discard, limit, palette, columns, rows } = settings;
+    let theirs = pictures::Settings { mode: plain::mode(mode), depth, flip, discard, limit, palette, columns, rows };
+    let rust = pictures::convert(theirs, pictures::max_tile_count(theirs.mode), pixels);
+    let bytes = plain::to_native_data(&rust.set).unwrap();
+    let (mut tiles, mut map) = (vec![0; bytes.len()], vec![0; rust.map.len()]);
+    let mut run = reading::strip_start(settings).unwrap();
+    while run.taken < rows {
+        assert_eq!(reading::strip_end(run), Err(19), "{settings:?}");
+        let (from, to) = (run.taken, run.taken + 1 + random.below(rows - run.taken));
+        let strip = &pixels[(64 * columns * from) as usize..(64 * columns * to) as usize];
+        reading::strip_take(&mut run, strip, &mut tiles, &mut map).unwrap();
+        assert_eq!(run.taken, to, "{settings:?}");
+    }
+    let picture = reading::strip_end(run).unwrap();
+    assert_eq!((picture.tiles, picture.discarded), plain::counts(&rust.set), "{settings:?}");
+    assert_eq!((picture.tile_bytes, picture.map_bytes), (bytes.len(), rust.map.len()), "{settings:?}");
+    assert!(tiles == bytes && map == rust.map, "{settings:?}");
+}
+
+#[test]
+fn converted_in_strips() {
+    if superfamiconv::absent("the reading of strips against the Rust") {
+        return;
+    }
+    let mut random = Random::new(5);
+    for settings in every_settings() {
+        for _ in 0..10 {
+            let pixels = pixels(settings, &mut random);
+            same_strips(settings, &pixels, &mut random);
+        }
+    }
+}
+
 #[test]
 fn converted_and_redrawn() {
     if superfamiconv::absent("the reading of pictures against the Rust") {

@@ -88,7 +88,7 @@ pub(crate) fn redraw(
 
 impl Picture {
     #[cfg(test)]
-    fn is_bare_if_refused(&self) -> bool {
+    pub(super) fn is_bare_if_refused(&self) -> bool {
         let counts = self.tiles != 0 || self.discarded != 0;
         self.refusal == 0 || !(counts || self.tile_bytes != 0 || self.map_bytes != 0)
     }

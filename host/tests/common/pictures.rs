@@ -8,15 +8,54 @@ use super::told;
 /// A conversion: its answer, and the tile buffer and the map as it leaves them.
 pub type Converted = (Result<Picture, u32>, Vec<u8>, Vec<u8>);
 
-/// The port's `convert`.
-pub fn convert(settings: Settings, pixels: &[u8], tiles: &mut [u8], map: &mut [u8]) -> Result<Picture, u32> {
+/// The port's settings.
+pub fn asked(settings: Settings) -> rumchivoat::Settings {
     let Settings { mode, depth, flip, discard, limit, palette, columns, rows } = settings;
     let size = rumchivoat::MapSize { columns, rows };
     let mut asked = rumchivoat::Settings::new(mode, depth, size).limit(limit).palette(palette);
     (asked.flip, asked.discard) = (flip, discard);
-    let rumchivoat::Picture { tiles, discarded, tile_bytes, map_bytes, .. } =
-        told(rumchivoat::convert(asked, pixels, tiles, map))?;
-    Ok(Picture { tiles, discarded, tile_bytes, map_bytes })
+    asked
+}
+
+/// The port's `convert`.
+pub fn convert(settings: Settings, pixels: &[u8], tiles: &mut [u8], map: &mut [u8]) -> Result<Picture, u32> {
+    told(rumchivoat::convert(asked(settings), pixels, tiles, map)).map(as_read)
+}
+
+/// The port's conversion in strips of so many rows each: the answer of the end, or of the first strip that is refused.
+pub fn convert_in_strips(
+    settings: Settings,
+    cutting: &[u32],
+    pixels: &[u8],
+    tiles: &mut [u8],
+    map: &mut [u8],
+) -> Result<Picture, u32> {
+    let mut run = told(rumchivoat::Run::start(asked(settings)))?;
+    let mut rest = pixels;
+    for &rows in cutting {
+        let (strip, later) = rest.split_at(run.row_len() * rows as usize);
+        told(run.take(strip, tiles, map))?;
+        rest = later;
+    }
+    told(run.end()).map(as_read)
+}
+
+/// So many rows in strips of any height.
+pub fn any_cutting(rows: u32, random: &mut Random) -> Vec<u32> {
+    let (mut left, mut strips) = (rows, Vec::new());
+    while left > 0 {
+        // one row more often than all that are left
+        let strip = 1 + random.below(left).min(random.below(left));
+        strips.push(strip);
+        left -= strip;
+    }
+    strips
+}
+
+/// What a conversion answers, as the reading has it.
+pub fn as_read(picture: rumchivoat::Picture) -> Picture {
+    let rumchivoat::Picture { tiles, discarded, tile_bytes, map_bytes, .. } = picture;
+    Picture { tiles, discarded, tile_bytes, map_bytes }
 }
 
 /// The port's `redraw`, told the settings of the picture.

@@ -6,8 +6,8 @@ use superfamiconv::bank::{WS_BANK, without_bank};
 use superfamiconv::{pictures, plain};
 
 use super::common::pictures::{
-    Kind, convert, converted, different_tiles, map_bytes, most_tiles, picture_modes, picture_of, places, redraw,
-    row_of, tile_size, with_every_flag,
+    Converted, Kind, any_cutting, convert, convert_in_strips, converted, different_tiles, map_bytes, most_tiles,
+    picture_modes, picture_of, places, redraw, row_of, tile_size, with_every_flag,
 };
 use super::common::{assert_writes, unpack_tile, writes};
 use super::tiles::Said::{self, Bytes, Panic};
@@ -23,28 +23,57 @@ fn rust_converts(settings: Settings, pixels: &[u8]) -> pictures::Converted {
     pictures::convert(rust_settings(settings), most_tiles(settings) as u32, pixels)
 }
 
+/// What a conversion comes to: the answer with the bytes of both buffers, or a refusal.
+type Expected<'a> = Result<(Picture, &'a [u8], &'a [u8]), u32>;
+
 /// Fails unless the port answers this in buffers of noise of these sizes and writes these bytes.
 fn converts_to(
     settings: Settings,
     pixels: &[u8],
     (tile_room, map_room): (usize, usize),
-    expected: Result<(Picture, &[u8], &[u8]), u32>,
+    expected: Expected,
     random: &mut Random,
 ) -> u64 {
     let noise = (&random.bytes(tile_room)[..], &random.bytes(map_room)[..]);
-    let (answer, tiles, map) = converted(noise, |tiles, map| convert(settings, pixels, tiles, map));
+    let at_once = converted(noise, |tiles, map| convert(settings, pixels, tiles, map));
     let case = || format!("{settings:?} in {tile_room} and {map_room} bytes");
+    comes_to(case, at_once, noise, expected);
+    1
+}
+
+/// The same, and in strips of any heights as well. The Rust has none: what it makes of the whole is due.
+fn converts_to_in_strips(
+    settings: Settings,
+    pixels: &[u8],
+    (tile_room, map_room): (usize, usize),
+    expected: Expected,
+    random: &mut Random,
+) -> u64 {
+    let cutting = any_cutting(settings.rows, random);
+    let noise = (&random.bytes(tile_room)[..], &random.bytes(map_room)[..]);
+    let in_strips = converted(noise, |tiles, map| convert_in_strips(settings, &cutting, pixels, tiles, map));
+    let case = || format!("{settings:?} in {tile_room} and {map_room} bytes, in strips of {cutting:?} rows");
+    match expected {
+        Ok(_) => comes_to(case, in_strips, noise, expected),
+        // the strips before the one that is refused have written theirs
+        Err(refusal) => assert_eq!(in_strips.0, Err(refusal), "{}", case()),
+    }
+    1 + converts_to(settings, pixels, (tile_room, map_room), expected, random)
+}
+
+fn comes_to(case: impl Fn() -> String, converted: Converted, noise: (&[u8], &[u8]), expected: Expected) {
+    let (answer, tiles, map) = converted;
     assert_eq!(answer, expected.map(|(picture, ..)| picture), "{}", case());
     let (tile_bytes, map_bytes) = expected.map_or((&[][..], &[][..]), |(_, tiles, map)| (tiles, map));
     assert!(tiles[..tile_bytes.len()] == *tile_bytes, "tile bytes written by {}", case());
     assert!(tiles[tile_bytes.len()..] == noise.0[tile_bytes.len()..], "tile bytes left by {}", case());
     assert!(map[..map_bytes.len()] == *map_bytes, "map bytes written by {}", case());
     assert!(map[map_bytes.len()..] == noise.1[map_bytes.len()..], "map bytes left by {}", case());
-    1
 }
 
-/// Converted alike: the counts and both lengths and bytes, in buffers exact and one byte long. One byte less is 12 of the
-/// tiles and 11 of the map. Where the Rust stores more tiles than the limit or the entries allow, the port answers 12.
+/// Converted alike, at once and in strips: the counts and both lengths and bytes, in buffers exact and one byte long. One
+/// byte less is 12 of the tiles and 11 of the map. Where the Rust stores more tiles than the limit or the entries allow,
+/// the port answers 12.
 fn same_converted(settings: Settings, pixels: &[u8], random: &mut Random) -> u64 {
     let theirs = rust_converts(settings, pixels);
     let (stored, discarded) = plain::counts(&theirs.set);
@@ -52,15 +81,15 @@ fn same_converted(settings: Settings, pixels: &[u8], random: &mut Random) -> u64
     assert_eq!(theirs.is_full, settings.limit != 0 && stored > settings.limit, "{settings:?}");
     let (tile_room, map_room) = (tiles.len(), theirs.map.len());
     if theirs.is_full || stored as usize > most_tiles(settings) {
-        return converts_to(settings, pixels, (tile_room, map_room), Err(12), random);
+        return converts_to_in_strips(settings, pixels, (tile_room, map_room), Err(12), random);
     }
     assert_eq!(theirs.blank, 0, "{settings:?}");
     let picture = Picture { tiles: stored, discarded, tile_bytes: tile_room, map_bytes: map_room };
     let expected = Ok((picture, &tiles[..], &theirs.map[..]));
-    converts_to(settings, pixels, (tile_room, map_room), expected, random)
-        + converts_to(settings, pixels, (tile_room + 1, map_room + 1), expected, random)
-        + converts_to(settings, pixels, (tile_room - 1, map_room), Err(12), random)
-        + converts_to(settings, pixels, (tile_room, map_room - 1), Err(11), random)
+    converts_to_in_strips(settings, pixels, (tile_room, map_room), expected, random)
+        + converts_to_in_strips(settings, pixels, (tile_room + 1, map_room + 1), expected, random)
+        + converts_to_in_strips(settings, pixels, (tile_room - 1, map_room), Err(12), random)
+        + converts_to_in_strips(settings, pixels, (tile_room, map_room - 1), Err(11), random)
 }
 
 /// The Rust's set of these bytes. At depth 1, where it panics in reading them, it is given the tiles that it packs to

@@ -307,7 +307,7 @@ fn maps_too_short_are_11() {
 }
 
 /// The settings with a mode, depth and size that call for these refusals.
-fn damaged(settings: Settings, refusals: &[u32]) -> Settings {
+pub fn damaged(settings: Settings, refusals: &[u32]) -> Settings {
     let has = |refusal| refusals.contains(&refusal);
     let mode = if has(2) { Mode::PceSprite.number() } else { settings.mode };
     Settings {
@@ -504,7 +504,7 @@ fn comes_back(settings: Settings, pixels: &[u8], tiles: &mut [u8], map: &mut [u8
 }
 
 /// So many tiles, each one of a few hundred: of any kind, and seen in any mirror.
-fn repeated_tiles(settings: Settings, count: usize, random: &mut Random) -> Vec<Vec<u8>> {
+pub fn repeated_tiles(settings: Settings, count: usize, random: &mut Random) -> Vec<Vec<u8>> {
     let kinds = Kind::ALL.map(|kind| kind.tiles(settings.depth, most_tiles(settings).min(1024) / 8, random));
     let several = kinds.concat();
     (0..count)

@@ -18,7 +18,7 @@ fn cut(depth: u32, pixels: &[u8]) -> Vec<u8> {
 }
 
 /// A lent slice with other bytes on both sides, and what they all held before the call.
-struct Framed {
+pub struct Framed {
     bytes: Vec<u8>,
     before: Vec<u8>,
     place: Range<usize>,
@@ -26,7 +26,7 @@ struct Framed {
 
 impl Framed {
     /// On each side fresh noise, or the tile that is asked for: a call that looked beyond an end would find it there.
-    fn new(slice: &[u8], asked: &[u8], random: &mut Random) -> Framed {
+    pub fn new(slice: &[u8], asked: &[u8], random: &mut Random) -> Framed {
         let mut side = || {
             let noise = random.below(40) as usize;
             if random.flag() { asked.to_vec() } else { random.bytes(noise) }
@@ -36,21 +36,21 @@ impl Framed {
         Framed { before: bytes.clone(), bytes, place: left.len()..left.len() + slice.len() }
     }
 
-    fn slice(&self) -> &[u8] {
+    pub fn slice(&self) -> &[u8] {
         &self.bytes[self.place.clone()]
     }
 
-    fn slice_mut(&mut self) -> &mut [u8] {
+    pub fn slice_mut(&mut self) -> &mut [u8] {
         &mut self.bytes[self.place.clone()]
     }
 
     /// Whether the slice holds these bytes, and all around it is as it was.
-    fn holds(mut self, bytes: &[u8]) -> bool {
+    pub fn holds(mut self, bytes: &[u8]) -> bool {
         self.before[self.place].copy_from_slice(bytes);
         self.bytes == self.before
     }
 
-    fn is_as_it_was(&self) -> bool {
+    pub fn is_as_it_was(&self) -> bool {
         self.bytes == self.before
     }
 }

@@ -1,0 +1,3 @@
+pub mod Strips
+pub mod Calls
+pub mod Inner
