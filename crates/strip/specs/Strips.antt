@@ -107,14 +107,15 @@ recordChecks r room = settingsChecks (settingsOf r) ++ 6 when (ltb room (r .tile
 abbrev pub rowLength : Run → ℕ
 rowLength r = 64 * r .columns
 
--- "19 end before the last row or a strip past it, checked after 6; a strip that is not whole rows, or is empty, is 7." "The map buffer must hold the
--- whole picture's map at every strip, else 11." The strip's picture, and the tiles that it comes after.
+-- The strip's picture, and the tiles that it comes after.
 abbrev pub stripOf : Run → List ℕ → Settings
 stripOf r pixels = rowsOf (settingsOf r) (length pixels / rowLength r)
 
 abbrev pub writtenBy : Run → List ℕ → List (List ℕ)
 writtenBy r tiles = unpackedTiles (settingsOf r) tiles (r .tiles)
 
+-- "19 end before the last row or a strip past it, checked after 6; a strip that is not whole rows, or is empty, is 7." "The map buffer must hold the
+-- whole picture's map at every strip, else 11."
 abbrev pub lengthChecks : Run → ℕ → ℕ → List ℕ
 lengthChecks r len mapSpace =
     19 when ltb ((r .rows - r .taken) * rowLength r) len
