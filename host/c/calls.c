@@ -501,7 +501,6 @@ static void set_read(void) {
     due.store[8 * 256 + 8] = 1;
     same_set(call, 0, a, set_of(0, 16, 0));
     same_set(call, RUMCHIVOAT_REFUSED_MODE, rumchivoat_set_read(NO_MODE, 2, 16, 16, true, b, 1024, s, 4096), none);
-    same_set(call, RUMCHIVOAT_REFUSED_PCE_SPRITE, rumchivoat_set_read(SPRITE, 4, 16, 16, true, b, 1024, s, 4096), none);
     same_set(call, RUMCHIVOAT_REFUSED_DEPTH, rumchivoat_set_read(SNES, 3, 16, 16, true, b, 1024, s, 4096), none);
     same_set(call, RUMCHIVOAT_REFUSED_SIZE, rumchivoat_set_read(SNES, 2, 16, 24, true, b, 1024, s, 4096), none);
     same_set(call, RUMCHIVOAT_REFUSED_LENGTH, rumchivoat_set_read(SNES, 2, 16, 16, true, b, 1023, s, 4096), none);
@@ -510,6 +509,29 @@ static void set_read(void) {
     a = rumchivoat_set_read(GB, 1, 8, 8, false, many_bytes, sizeof many_bytes, many_pixels, sizeof many_pixels);
     if (!all_are(many_pixels, sizeof many_pixels, 0xa5)) a.set.stored = TOO_MANY;
     same_set(call, RUMCHIVOAT_REFUSED_ROOM, a, none);
+}
+
+/* Two sprites of 16x16, of which the second has one pixel, are read and written again. */
+static void set_read_sprites(void) {
+    static const char call[] = "rumchivoat_set_read";
+    rumchivoat_set none = {0, 0, 0, 0, false, false, 0, 0, 0}, sprites = {SPRITE, 4, 16, 16, true, true, 0, 2, 0};
+    uint8_t *b = lent.bytes, *s = lent.store;
+    begin();
+    memset(b, 0, 256);
+    b[128 + 97] = 0x02;
+    keep();
+    rumchivoat_set_answer a = rumchivoat_set_read(SPRITE, 4, 16, 16, true, b, 256, s, 513);
+    memset(due.store, 0, 512);
+    due.store[256 + 9] = 8;
+    same_set(call, 0, a, sprites);
+    rumchivoat_written w = rumchivoat_set_write(sprites, s, 512, lent.out, 257);
+    memcpy(due.out, lent.bytes, 256);
+    tell("rumchivoat_set_write", 0, is_written(w, 0, 256));
+    same_set(call, RUMCHIVOAT_REFUSED_LENGTH, rumchivoat_set_read(SPRITE, 4, 16, 16, true, b, 255, s, 512), none);
+    same_set(call, RUMCHIVOAT_REFUSED_LENGTH, rumchivoat_set_read(SPRITE, 4, 16, 16, true, b, 129, s, 512), none);
+    /* whole cells that are no whole sprite */
+    same_set(call, RUMCHIVOAT_REFUSED_LENGTH, rumchivoat_set_read(SPRITE, 4, 32, 16, true, b, 128, s, 512), none);
+    same_set(call, RUMCHIVOAT_REFUSED_OUTPUT, rumchivoat_set_read(SPRITE, 4, 16, 16, true, b, 256, s, 511), none);
 }
 
 /* ---- titles */
@@ -947,6 +969,9 @@ static void cured_sets(void) {
     same_set("rumchivoat_set_add", 0, rumchivoat_set_add(set_of(0, 1, 0), s, 2304, p, 256), set_of(0, 1, 1));
     read = rumchivoat_set_read(GB, 1, 8, 8, false, many_bytes, 8 * 65535, many_pixels, sizeof many_pixels).set;
     tell("rumchivoat_set_read", 0, read.stored == 65535 && all_are(many_pixels, 64 * 65535, 0));
+    read = rumchivoat_set_read(SPRITE, 4, 16, 16, false, many_bytes, 128, s, 256).set;
+    memset(due.store, 0, 256);
+    tell("rumchivoat_set_read", 0, read.stored == 1);
 }
 
 static void cured_titles(void) {
@@ -1136,6 +1161,7 @@ static void every_call(void) {
     set_add();
     set_write();
     set_read();
+    set_read_sprites();
     title_look_up();
     title_add();
     numbers();

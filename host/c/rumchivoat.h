@@ -23,7 +23,7 @@
 #include <stdint.h>
 
 /* The number of the interface that this header is about. Compare it with rumchivoat_interface() of the archive. */
-#define RUMCHIVOAT_INTERFACE 5
+#define RUMCHIVOAT_INTERFACE 6
 
 /* ---- the sixteen modes */
 
@@ -50,7 +50,7 @@
 #define RUMCHIVOAT_DONE 0u
 #define RUMCHIVOAT_REFUSED_SETTINGS 14u       /* run only: the sheet is not as it should be */
 #define RUMCHIVOAT_REFUSED_MODE 1u            /* mode number above 15 */
-#define RUMCHIVOAT_REFUSED_PCE_SPRITE 2u      /* an entry, picture, redraw, cell number or reading in pce_sprite */
+#define RUMCHIVOAT_REFUSED_PCE_SPRITE 2u      /* an entry, picture, redraw or cell number in pce_sprite */
 #define RUMCHIVOAT_REFUSED_DEPTH 3u           /* depth not in the mode's row */
 #define RUMCHIVOAT_REFUSED_SIZE 4u            /* tile size not allowed, columns or rows outside 1..64, tile above 65,535 */
 #define RUMCHIVOAT_REFUSED_FLIPS 5u           /* picture with flips on in a mode without flips */
@@ -326,12 +326,12 @@ rumchivoat_set_answer rumchivoat_set_add(rumchivoat_set set, uint8_t *store, siz
 rumchivoat_written rumchivoat_set_write(rumchivoat_set set, const uint8_t *store, size_t store_len, uint8_t *out,
                                         size_t out_len);
 
-/* Reads a set from native bytes, up to the first tile that has not all its cells. Nothing is discarded. The set has
- * limit 0, discarding on, flips as given.
- * Reads    `bytes`: whole cells of 8 x depth.
+/* Reads a set from native bytes as rumchivoat_set_write writes them, up to the first tile that has not all its cells.
+ * Nothing is discarded. The set has limit 0, discarding on, flips as given.
+ * Reads    `bytes`: whole cells of 8 x depth; in pce_sprite whole tiles, RUMCHIVOAT_TILE_BYTES(depth, width, height)
+ *          each.
  * Writes   `store`: RUMCHIVOAT_STORE_BYTES of the tiles read.
- * Refused  with an empty set: 1 mode; 2 pce_sprite; 3 depth; 4 width or height; 7 bytes_len; 11 store_len; 12 more than
- *          65,535 tiles.
+ * Refused  with an empty set: 1 mode; 3 depth; 4 width or height; 7 bytes_len; 11 store_len; 12 more than 65,535 tiles.
  * Stack    RUMCHIVOAT_STACK_OTHERS. */
 rumchivoat_set_answer rumchivoat_set_read(uint32_t mode, uint32_t depth, uint32_t width, uint32_t height, bool flips,
                                           const uint8_t *bytes, size_t bytes_len, uint8_t *store, size_t store_len);

@@ -1,10 +1,11 @@
 //! A station in small: the interface is checked, a picture is converted, redrawn and compared, a set of tiles is
-//! written, twin titles share a tile, and a refusal is told in words.
+//! written, the sprites of a returned board are compared with the master's, twin titles share a tile, and a refusal is
+//! told in words.
 
 use std::error::Error;
 
 use rumchivoat::{
-    Entry, INTERFACE, MapSize, Mode, SetSettings, Settings, TileSet, TileSize, Title, check_interface,
+    Entry, INTERFACE, Logical, MapSize, Mode, SetSettings, Settings, TileSet, TileSize, Title, check_interface,
     pack_colors_to_vec,
 };
 
@@ -77,6 +78,26 @@ fn collect(pixels: &[u8]) -> Result<(), Box<dyn Error>> {
     Ok(())
 }
 
+/// A returned board has the picture's quarters as sprites, and one bit of them is off: its bytes are read, and compared
+/// with the master's tiles.
+fn compare(pixels: &[u8]) -> Result<(), Box<dyn Error>> {
+    let size = TileSize { width: 16, height: 16 };
+    let settings = SetSettings::new(Mode::PceSprite, 4, size);
+    let mut master = TileSet::new(settings, vec![0; settings.store_len(4)?])?;
+    for quarter in quarters(pixels) {
+        master.add(&quarter)?;
+    }
+    let mut board = master.write_to_vec()?;
+    if let Some(last) = board.last_mut() {
+        *last ^= 1;
+    }
+    let returned = TileSet::read(Mode::PceSprite, 4, size, false, &board, vec![0; settings.store_len(4)?])?;
+    let numbers = (0..4).map(Logical);
+    let differ = numbers.filter(|&number| returned.tile(number) != master.tile(number)).count();
+    println!("pce   board    16x16 sprites: {} read, {differ} not the master's", returned.len());
+    Ok(())
+}
+
 /// Twin titles have one quarter in common, and each a plain tile of its own: the other quarters are found as mirror
 /// images of the common one, and neither title writes it.
 fn share(pixels: &[u8]) -> Result<(), Box<dyn Error>> {
@@ -113,6 +134,7 @@ fn main() -> Result<(), Box<dyn Error>> {
         convert(mode, depth, &pixels)?;
     }
     collect(&pixels)?;
+    compare(&pixels)?;
     share(&pixels)?;
     refuse();
     Ok(())

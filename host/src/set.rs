@@ -241,15 +241,17 @@ impl Set {
         raw::set_write(*self, store, out).length()
     }
 
-    /// Reads a set from the mode's bytes into the store: whole cells, up to the first tile that is not complete. The
-    /// set has no limit and discards; equal tiles are all kept. [`TileSet::read`](crate::TileSet::read) takes the size
-    /// as one.
+    /// Reads a set from the mode's bytes into the store: whole cells, up to the first tile that is not complete; of
+    /// pce_sprite whole tiles. The set has no limit and discards; equal tiles are all kept.
+    /// [`TileSet::read`](crate::TileSet::read) takes the size as one.
+    ///
+    /// [`write`](Set::write) gives the same bytes back where they are whole rows of tiles, as those of 8x8 and of
+    /// pce_sprite always are. Elsewhere it gives whole rows in which all cells are blank but those of the tiles read.
     ///
     /// # Errors
     ///
-    /// The first that applies: [`Refusal::Mode`], [`Refusal::PceSprite`], [`Refusal::Depth`], [`Refusal::Size`],
-    /// [`Refusal::Length`], [`Refusal::Output`] where the store is too short, [`Refusal::Room`] for more than 65,535
-    /// tiles.
+    /// The first that applies: [`Refusal::Mode`], [`Refusal::Depth`], [`Refusal::Size`], [`Refusal::Length`],
+    /// [`Refusal::Output`] where the store is too short, [`Refusal::Room`] for more than 65,535 tiles.
     ///
     /// # Example
     ///
@@ -262,6 +264,14 @@ impl Set {
     /// assert_eq!((set.stored, set.discarded, set.discarding, set.limit), (16, 0, true, 0));
     /// assert_eq!(store, [0; 16 * 256]);
     /// assert_eq!(Set::read(Mode::Snes, 2, 16, 16, true, &[0; 15], &mut store), Err(Refusal::Length));
+    ///
+    /// // two sprites of 16x16, and the same bytes again
+    /// let board = [[0x5a; 128], [0xa5; 128]].concat();
+    /// let set = Set::read(Mode::PceSprite, 4, 16, 16, true, &board, &mut store)?;
+    /// let mut bytes = [0; 256];
+    /// assert_eq!((set.stored, set.write(&store, &mut bytes)), (2, Ok(256)));
+    /// assert_eq!(bytes, *board);
+    /// assert_eq!(Set::read(Mode::PceSprite, 4, 16, 16, true, &board[1..], &mut store), Err(Refusal::Length));
     /// # Ok::<(), Refusal>(())
     /// ```
     pub fn read(
@@ -316,11 +326,11 @@ impl Set {
         limit.min(MOST_TILES).min(store / self.size().pixels().max(1))
     }
 
-    /// The cells of the set's bytes. But for 8x8 and pce_sprite they fill whole rows, R = 16 of snes and 1 of others.
+    /// The cells of the set's bytes. But for native tiles they fill whole rows, R = 16 of snes and 1 of others.
     fn cells(&self) -> usize {
         let (across, down) = ((self.width as usize / 8).max(1), self.height as usize / 8);
         let stored = self.stored as usize;
-        if self.mode == Mode::PceSprite.number() || self.size() == TileSize::CELL {
+        if is_native(self.mode, self.size()) {
             return stored * across * down;
         }
         let row = row_cells(self.mode);
@@ -335,6 +345,11 @@ impl Set {
             _ => Cause::of_tiles(refusal, self.mode, self.depth, self.size()),
         }
     }
+}
+
+/// Whether a set's bytes are its tiles, one after the other: those of 8x8, and of pce_sprite.
+pub(crate) fn is_native(mode: u32, size: TileSize) -> bool {
+    mode == Mode::PceSprite.number() || size == TileSize::CELL
 }
 
 /// R, the cells of a row of a set's bytes.

@@ -30,7 +30,7 @@ impl TileSize {
     }
 
     /// The bytes of a native tile of this size.
-    const fn bytes(self, depth: u32) -> usize {
+    pub(crate) const fn bytes(self, depth: u32) -> usize {
         self.pixels().saturating_mul(depth as usize) / 8
     }
 }

@@ -1,6 +1,6 @@
 //! A set that keeps its store.
 
-use crate::set::row_cells;
+use crate::set::{is_native, row_cells};
 use crate::{Cause, Logical, Native, Place, Refusal, Refused, Set, TileSize, logical_number, native_number};
 
 /// What a set is made by.
@@ -209,13 +209,13 @@ impl<S: AsRef<[u8]> + AsMut<[u8]>> TileSet<S> {
     }
 
     /// Reads a set from the mode's bytes into this store, as [`Set::read`] does: whole cells, up to the first tile that
-    /// is not complete. The set has no limit and discards; equal tiles are all kept.
+    /// is not complete; of pce_sprite whole tiles. The set has no limit and discards; equal tiles are all kept.
     ///
     /// # Errors
     ///
-    /// The first that applies: [`Refusal::Mode`], [`Refusal::PceSprite`], [`Refusal::Depth`], [`Refusal::Size`],
-    /// [`Refusal::Length`], [`Refusal::Output`] where the store is too short, [`Refusal::Room`] for more than 65,535
-    /// tiles, with their causes.
+    /// The first that applies: [`Refusal::Mode`], [`Refusal::Depth`], [`Refusal::Size`], [`Refusal::Length`],
+    /// [`Refusal::Output`] where the store is too short, [`Refusal::Room`] for more than 65,535 tiles, with their
+    /// causes.
     ///
     /// # Example
     ///
@@ -228,6 +228,11 @@ impl<S: AsRef<[u8]> + AsMut<[u8]>> TileSet<S> {
     ///
     /// let refused = TileSet::read(Mode::Gb, 1, TileSize::CELL, flips, &[0xff; 16], vec![0; 127]).unwrap_err();
     /// assert_eq!(refused.to_string(), "refused 11: the store needs 128 bytes and has 127");
+    ///
+    /// // a returned board's sprites: what is read of them is written again
+    /// let (size, board) = (TileSize { width: 32, height: 64 }, [0x5a; 2 * 1024]);
+    /// let sprites = TileSet::read(Mode::PceSprite, 4, size, flips, &board, vec![0; 2 * 2048])?;
+    /// assert_eq!((sprites.len(), sprites.write_to_vec()?), (2, board.to_vec()));
     /// # Ok::<(), Refused>(())
     /// ```
     pub fn read(
@@ -239,10 +244,11 @@ impl<S: AsRef<[u8]> + AsMut<[u8]>> TileSet<S> {
         mut store: S,
     ) -> Result<TileSet<S>, Refused> {
         let (mode, space) = (mode.into(), store.as_ref().len());
+        let part = part_bytes(mode, depth, size);
         let cause = |refusal| match refusal {
-            Refusal::Length => Cause::Whole { what: "byte", part: cell_bytes(depth), given: bytes.len() },
+            Refusal::Length => Cause::Whole { what: "byte", part, given: bytes.len() },
             Refusal::Output => {
-                let needed = read_tiles(mode, size, bytes.len() / cell_bytes(depth)).saturating_mul(size.pixels());
+                let needed = read_tiles(mode, size, bytes.len() / part).saturating_mul(size.pixels());
                 Cause::Output { what: "store", needed, space }
             }
             _ => Cause::of_tiles(refusal, mode, depth, size),
@@ -425,18 +431,20 @@ pub(crate) fn tile_at(store: &[u8], size: TileSize, number: u32) -> Option<&[u8]
     store.get(start..start.checked_add(size.pixels())?)
 }
 
-/// The bytes of a cell; 1 of a depth that is none.
-fn cell_bytes(depth: u32) -> usize {
-    (depth as usize).saturating_mul(8).max(1)
+/// The bytes of the part that a set is read by, a cell or a whole native tile; 1 of a depth or a size that is none.
+fn part_bytes(mode: u32, depth: u32, size: TileSize) -> usize {
+    let part = if is_native(mode, size) { size } else { TileSize::CELL };
+    part.bytes(depth).max(1)
 }
 
-/// The tiles that are read of so many cells: those of whole rows, and those of the last row whose cells are all there.
-fn read_tiles(mode: u32, size: TileSize, cells: usize) -> usize {
+/// The tiles that are read of so many parts: native tiles are all read; of cells, those of whole rows, and those of the
+/// last row whose cells are all there.
+fn read_tiles(mode: u32, size: TileSize, parts: usize) -> usize {
     let (across, down) = ((size.width as usize / 8).max(1), (size.height as usize / 8).max(1));
-    if size == TileSize::CELL {
-        return cells;
+    if is_native(mode, size) {
+        return parts;
     }
     let row = row_cells(mode);
-    let (rows, rest) = (cells / (down * row), cells % (down * row));
+    let (rows, rest) = (parts / (down * row), parts % (down * row));
     rows * (row / across) + rest.saturating_sub((down - 1) * row) / across
 }

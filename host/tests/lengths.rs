@@ -189,21 +189,23 @@ fn written_shape(settings: SetSettings) -> usize {
 /// A store of exactly the length that the refusal of a shorter one names is enough.
 #[test]
 fn read_sets() {
-    let modes = Mode::ALL.into_iter().filter(|&mode| mode != Mode::PceSprite);
-    let shapes = modes.flat_map(|mode| mode.depths().iter().map(move |&depth| (mode, depth)));
+    let shapes = Mode::ALL.into_iter().flat_map(|mode| mode.depths().iter().map(move |&depth| (mode, depth)));
     for ((mode, depth), size) in shapes.flat_map(|shape| sizes().map(move |size| (shape, size))) {
         if Set::with_settings(SetSettings::new(mode, depth, size)).is_err() {
             continue;
         }
-        for cells in (0..70).chain([127, 128, 129, 255, 256, 257]) {
-            let bytes = vec![0x5a; cells * 8 * depth as usize];
-            let read = TileSet::read(mode, depth, size, true, &bytes, vec![0; 64 * cells]).unwrap();
+        // sprites are read whole, all others by cells
+        let TileSize { width, height } = if mode == Mode::PceSprite { size } else { TileSize::CELL };
+        for parts in (0..70).chain([127, 128, 129, 255, 256, 257]) {
+            let pixels = parts * (width * height) as usize;
+            let bytes = vec![0x5a; pixels * depth as usize / 8];
+            let read = TileSet::read(mode, depth, size, true, &bytes, vec![0; pixels]).unwrap();
             let needed = read.len() * (size.width * size.height) as usize;
             assert!(TileSet::read(mode, depth, size, true, &bytes, vec![0; needed]).is_ok());
             if needed > 0 {
                 let refused = TileSet::read(mode, depth, size, true, &bytes, vec![0; needed - 1]).unwrap_err();
                 let words = format!("refused 11: the store needs {needed} bytes and has {}", needed - 1);
-                assert_eq!(refused.to_string(), words, "{mode} {depth} {size} {cells} cells");
+                assert_eq!(refused.to_string(), words, "{mode} {depth} {size} {parts} parts");
             }
         }
     }

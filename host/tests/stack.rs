@@ -241,7 +241,7 @@ fn entries() -> Vec<Call> {
     ]
 }
 
-/// Snes tiles of 64x64, the largest, and native numbers.
+/// Snes tiles of 64x64, the largest, sprites of 32x64, and native numbers.
 fn sets() -> Vec<Call> {
     let size = TileSize { width: 64, height: 64 };
     let settings = SetSettings::new(Mode::Snes, 8, size).flips().discarding();
@@ -259,6 +259,7 @@ fn sets() -> Vec<Call> {
     let (one, two, three, four) = (tile.clone(), tile.clone(), tile.clone(), tile);
     let (looked, written, read, kept) = (store.clone(), store, bytes.clone(), bytes);
     let mut space = vec![0; 16 * 4096];
+    let (board, mut sprites) = (different_pixels(4 * 1024), vec![0; 4 * 2048]);
     vec![
         other("Set::with_settings", true, Box::new(move || Set::with_settings(settings).is_ok())),
         other("Set::reset", true, Box::new(move || reset.reset().is_ok())),
@@ -275,6 +276,11 @@ fn sets() -> Vec<Call> {
         other("Set::write", true, Box::new(move || set.write(&written, &mut out).is_ok())),
         other("TileSet::write_to_vec", true, Box::new(move || full.write_to_vec().is_ok())),
         other("Set::read", true, Box::new(move || Set::read(Mode::Snes, 8, 64, 64, true, &read, &mut space).is_ok())),
+        other(
+            "Set::read, sprites",
+            true,
+            Box::new(move || Set::read(Mode::PceSprite, 4, 32, 64, true, &board, &mut sprites).is_ok()),
+        ),
         other(
             "TileSet::read, no store",
             false,

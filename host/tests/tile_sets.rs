@@ -87,7 +87,7 @@ fn a_set_that_borrows_its_store() {
 
 #[test]
 fn a_set_is_read_as_it_was_written() {
-    for settings in settings().filter(|settings| settings.mode != Mode::PceSprite.number()) {
+    for settings in settings() {
         let SetSettings { mode, depth, size, flips, .. } = settings;
         let mut tiles = TileSet::new(settings, vec![0; settings.store_len(3).unwrap()]).unwrap();
         for number in 1..4 {

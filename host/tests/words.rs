@@ -33,11 +33,7 @@ fn entries() {
         (Mode::Gb, Entry { palette: 1, ..plain }, "refused 16: palette index 1 is too large: gb has palette 0 alone"),
         (Mode::Pce, Entry { flip_v: true, ..plain }, "refused 17: pce has no flips"),
         (Mode::Gba, Entry { flip_h: true, priority: true, ..plain }, "refused 18: gba has no priority"),
-        (
-            Mode::PceSprite,
-            plain,
-            "refused 2: pce_sprite has no map entries, no pictures and no cell numbers, and its sets are not read",
-        ),
+        (Mode::PceSprite, plain, "refused 2: pce_sprite has no map entries, no pictures and no cell numbers"),
     ];
     for (mode, entry, expected) in cases {
         assert_eq!(words(entry.pack(mode, &mut [0; 2])), expected);
@@ -202,6 +198,12 @@ fn sets() {
     };
     assert_eq!(read(Mode::Snes, &[0; 17]), "refused 7: 17 bytes are no multiple of 16");
     assert_eq!(read(Mode::Snes, &[0; 32]), "refused 11: the store needs 128 bytes and has 64");
+    // sprites are read whole, and not by cells
+    let sprite = TileSize { width: 32, height: 16 };
+    let read = |bytes: &[u8]| words(TileSet::read(Mode::PceSprite, 4, sprite, false, bytes, vec![0; 512]));
+    assert_eq!(read(&[0; 255]), "refused 7: 255 bytes are no multiple of 256");
+    assert_eq!(read(&[0; 288]), "refused 7: 288 bytes are no multiple of 256");
+    assert_eq!(read(&[0; 512]), "refused 11: the store needs 1024 bytes and has 512");
 }
 
 #[test]

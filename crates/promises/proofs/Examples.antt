@@ -15,7 +15,7 @@ use Rattle.tile.specs.Tile as tile
 use Rattle.tileset.specs.Sets.{newSet, withCounts, roomUnder, setRoom, setSays, heldSays}
 use Rattle.tileset.specs.Numbers.{startsAt, belongsTo, firstCell, tileOf, gridSays, nativeSays, logicalSays}
 use Rattle.tileset.specs.Writing.{paddedCells, cellCount, cornerOf, cellPixels, setBytes, writeSize, writeSays}
-use Rattle.tileset.specs.Reading.{wholeTiles, readCount, readableSays, readSays}
+use Rattle.tileset.specs.Reading.{wholeTiles, unitBytes, readCount, readSays}
 use Rattle.tileset.specs.declared.Set.{Set}
 use Rattle.rumchivoat.specs.Station.{entryFrom}
 
@@ -105,5 +105,5 @@ holds [] = true
 holds (e ∷ es) = (eqb (e .says) (e .refusal) && same (e .bytes) (e .expected)) && holds es
 
 pub examples-hold : T (holds examples)
-unfolding holds examples tiles stripes oneTwo spread table fromBits tile.packingOf tile.packSays colors packs refuses gray row color.coloring color.packed color.packSays entry.layout entry.entrySays entry.packSays answers nine blanks setRoom roomUnder setSays heldSays startsAt belongsTo gridSays nativeSays paddedCells cellCount cornerOf cellPixels setBytes writeSize writeSays wholeTiles readableSays readSays
+unfolding holds examples tiles stripes oneTwo spread table fromBits tile.packingOf tile.packSays colors packs refuses gray row color.coloring color.packed color.packSays entry.layout entry.entrySays entry.packSays answers nine blanks setRoom roomUnder setSays heldSays startsAt belongsTo gridSays nativeSays paddedCells cellCount cornerOf cellPixels setBytes writeSize writeSays wholeTiles unitBytes readCount readSays
 examples-hold = tt

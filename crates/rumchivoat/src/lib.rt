@@ -40,7 +40,7 @@ ghost use Rattle.rumchivoat.specs.Station.{interface, roundingOf, entryF
 pub extern "C" fn rumchivoat_interface() -> u32
     ensures { λ r. ⌜ r ≡ interface ⌝ }
 {
-    5
+    6
 }
 
 // A native tile: pixels to the mode's bytes.

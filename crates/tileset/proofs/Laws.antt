@@ -1,27 +1,31 @@
 -- The laws of document 01's "Sets and whole tiles", as a reader wants them.
 -- Assumes nothing.
 use mathlib.Core.Path.{_≡_, refl, sym, ap, _∙_}
-use mathlib.Core.Bool.{Bool, true}
+use mathlib.Core.Bool.{Bool, true, false}
 use mathlib.Core.List.{List, [], _∷_, _++_, map}
-use Prim.Native.Nat.{ℕ, _+_, _-_, _*_, _/_, _<_, _≤_}
+use Prim.Native.Nat.{ℕ, _+_, _-_, _*_, _/_, _%_, _<_, _≤_}
+use native.Mathlib.Nat.{div-add-mod'}
 use native.Mathlib.Omega.{arith}
+use lib.Dec.{eqb}
 use lib.ListN.{length}
+use borrow.Author.Tests.{eqb-true, eqb-false}
 use Rattle.words.proofs.Answers.{when-done, when-refused}
-use Rattle.tileset.specs.Sets.{newSet, noSet, emptied, answeredSet}
+use Rattle.mode.specs.Table.{pce-sprite}
+use Rattle.tileset.specs.Sets.{setSays, newSet, noSet, emptied, answeredSet}
 use Rattle.tileset.specs.Finding.{tilesIn}
 use Rattle.tileset.specs.Adding.{Adds}
 use Rattle.tileset.specs.Matched.{Apart}
 use Rattle.tileset.specs.Keeping.{keepAll, repeats}
 use Rattle.tileset.specs.Numbers.{rowCells, firstCell}
-use Rattle.tileset.specs.Reading.{readCount, readableSays, readSet, Reads}
+use Rattle.tileset.specs.Reading.{wholeTiles, tileSize, readCount, readSays, readSet, Reads}
 use Rattle.tileset.specs.History.{setTiles, Call, addCall, resetCall, lookCall, Promised, callNumber, setAfter, storeAfter, lastSet, lastStore, Calls}
 use Rattle.tileset.specs.History.{Since, sinceReset, sinceStart, tilesRead, sinceRead, sinceCall, sinceCalls, asked, callOf, callsOf}
 use Rattle.tileset.specs.declared.Set.{Set}
 use Rattle.tileset.specs.declared.SetAnswer.{SetAnswer}
 use Rattle.tileset.proofs.Says.{says}
 use Rattle.tileset.proofs.Sizes.{set-of, grid-set}
-use Rattle.tileset.proofs.ReadingLaws.{readable-mode, readable-says-set, cells-before, tile-complete, next-incomplete, own-cell}
-use Rattle.tileset.proofs.ReadBack.{single-tiles}
+use Rattle.tileset.proofs.ReadingLaws.{sprite-unit, sprite-count, cell-count, read-whole, cell-size, cells-before, tile-complete, next-incomplete, own-cell}
+use Rattle.tileset.proofs.Straight.{single-tiles}
 use Rattle.tileset.proofs.Matched.{apart-none}
 use Rattle.tileset.proofs.TilesRead.{tiles-read}
 use Rattle.tileset.proofs.History.{Stands, stands-start, after-calls, first-tiles, stands-discarded, stands-apart}
@@ -129,19 +133,29 @@ module _ (m d w h : ℕ) (flips : Bool) (bytes store : List ℕ) {r : SetAnswer}
       (ap (λ (x : Set). record { stored = x .stored; discarded = x .discarded; tiles = setTiles (r .set) after; taken = [] }) read-set
       ∙ ap (λ (l : List (List ℕ)). record { stored = readCount m d w h (length bytes); discarded = 0; tiles = l; taken = [] }) read-tiles)
 
--- at 8x8 every cell is a tile
+-- at 8x8 every cell is a tile, and in pce_sprite no byte is left
+cells-case : (m d len : ℕ) (b : Bool) → eqb m pce-sprite ≡ b → readCount m d 8 8 len ≡ len / (d * 8)
+cells-case m d len true e = sym (sprite-count m d 8 8 len (eqb-true m pce-sprite e)) ∙ ap (λ (k : ℕ). len / k) (cell-size d)
+cells-case m d len false e = sym (cell-count m d 8 8 len (eqb-false m pce-sprite e)) ∙ single-tiles (rowCells m) (len / (d * 8))
+
 pub read-cells : (m d len : ℕ) → readCount m d 8 8 len ≡ len / (d * 8)
-read-cells m d len = single-tiles (rowCells m) (len / (d * 8))
+read-cells m d len = cells-case m d len (eqb m pce-sprite) refl
+
+pub read-sprites : (m d w h len space : ℕ) → m ≡ pce-sprite → readSays m d w h len space ≡ 0 → readCount m d w h len * tileSize d w h ≡ len
+read-sprites m d w h len space is z =
+    let whole : len % tileSize d w h ≡ 0 = ap (λ (k : ℕ). len % k) (sprite-unit m d w h len is) ∙ read-whole m d w h len space z in
+    ap (λ (k : ℕ). k * tileSize d w h) (sym (sprite-count m d w h len is)) ∙ omega (arith, div-add-mod' len (tileSize d w h))
 
 -- "stops at the first incomplete tile"
-module _ (m d w h len : ℕ) where
+module _ (m d w h len : ℕ) (other : m ≡ pce-sprite → ⊥) where
   -- every cell of each tile that is read is there
   pub read-complete : (n i j : ℕ) → n < readCount m d w h len → i < h / 8 → j < w / 8 → firstCell m w h n + i * rowCells m + j < len / (d * 8)
   read-complete n i j lt hi hj =
-      omega (arith, cells-before (rowCells m) (w / 8) (h / 8) n i j hi hj, tile-complete (rowCells m) (w / 8) (h / 8) (len / (d * 8)) n lt)
+      let whole : n < wholeTiles (rowCells m) (w / 8) (h / 8) (len / (d * 8)) = rw (cell-count m d w h len other) lt in
+      omega (arith, cells-before (rowCells m) (w / 8) (h / 8) n i j hi hj, tile-complete (rowCells m) (w / 8) (h / 8) (len / (d * 8)) n whole)
 
   -- and the last cell of the tile after them is not
-  pub read-stops : readableSays m d w h ≡ 0 → len / (d * 8) ≤ firstCell m w h (readCount m d w h len) + (h / 8 - 1) * rowCells m + (w / 8 - 1)
+  pub read-stops : setSays m d w h ≡ 0 → len / (d * 8) ≤ firstCell m w h (readCount m d w h len) + (h / 8 - 1) * rowCells m + (w / 8 - 1)
   read-stops z =
-      let grid = grid-set (set-of m d w h (readable-says-set m d w h z)) (readable-mode m d w h z) in
-      next-incomplete (rowCells m) (w / 8) (h / 8) (len / (d * 8)) (own-cell (rowCells m) (w / 8) (h / 8) grid)
+      let grid = grid-set (set-of m d w h z) other in
+      rw (← cell-count m d w h len other) (next-incomplete (rowCells m) (w / 8) (h / 8) (len / (d * 8)) (own-cell (rowCells m) (w / 8) (h / 8) grid))

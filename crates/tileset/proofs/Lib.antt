@@ -15,6 +15,8 @@ pub mod Laws
 pub mod WritingLaws
 pub mod Written
 pub mod ReadingLaws
+pub mod Straight
 pub mod ReadBack
+pub mod Again
 pub mod ReadThenWrite
 pub mod LowestCells

@@ -14,7 +14,7 @@ use Rattle.tile.specs.Tile.{tooLarge}
 use Rattle.tileset.specs.Sets.{isSize, area, roomIn}
 use Rattle.tileset.specs.Numbers.{tileOf, nativeChecks, nativeSays, logicalChecks, logicalSays}
 use Rattle.tileset.specs.Writing.{writeSize, writeChecks, writeSays}
-use Rattle.tileset.specs.Reading.{readCount, readChecks, readSays}
+use Rattle.tileset.specs.Reading.{unitBytes, readCount, readChecks, readSays}
 use Rattle.tileset.specs.declared.Set.{Set}
 
 pub native-lowest : (m w h n : ℕ) → nativeSays m w h n ≡ lowest (nativeChecks m w h n)
@@ -49,15 +49,15 @@ write-lowest z store space =
 pub read-lowest : (m d w h len space : ℕ) → readSays m d w h len space ≡ lowest (readChecks m d w h len space)
 unfolding readSays
 read-lowest m d w h len space =
-    first-lowest (1 ∷ 2 ∷ 3 ∷ 4 ∷ 7 ∷ 11 ∷ 12 ∷ []) (readChecks m d w h len space) tt (
+    first-lowest (1 ∷ 3 ∷ 4 ∷ 7 ∷ 11 ∷ 12 ∷ []) (readChecks m d w h len space) tt (
       gives-when 1 (ltb 15 m),
       (
-        gives-when 2 (eqb m pce-sprite),
+        gives-when 3 (not (hasDepth m d)),
         (
-          gives-when 3 (not (hasDepth m d)),
+          gives-when 4 (not (isSize m w h)),
           (
-            gives-when 4 (not (isSize m w h)),
-            (gives-when 7 (not (eqb (len % (d * 8)) 0)), (gives-when 11 (ltb space (readCount m d w h len * (w * h))), (gives-when 12 (ltb 65535 (readCount m d w h len)), tt))),
+            gives-when 7 (not (eqb (len % unitBytes m d w h) 0)),
+            (gives-when 11 (ltb space (readCount m d w h len * (w * h))), (gives-when 12 (ltb 65535 (readCount m d w h len)), tt)),
           ),
         ),
       ),

@@ -1,31 +1,32 @@
--- Writing a set and reading it: its tiles, and blank ones to the end of the last row of tiles.
+-- Writing a set and reading it: its tiles, and blank ones to the end of the last row of tiles, where they stand in rows.
 -- Assumes nothing.
-use mathlib.Core.Path.{_≡_, refl, sym, ap, _∙_}
-use mathlib.Core.Bool.{Bool, true, false, cond, _&&_}
-use mathlib.Core.List.{List, [], _∷_, _++_}
+use mathlib.Core.Path.{_≡_, refl, sym, ap, _∙_, subst}
+use mathlib.Core.Bool.{Bool, true, false}
+use mathlib.Core.List.{List, _++_, append-nil}
 use Prim.Native.Nat.{ℕ, _+_, _-_, _*_, _/_, _%_, _<_, _≤_}
-use native.Mathlib.Nat.{mod-lt, mul-le-mul-right, mul-comm, mul-assoc, add-mul, zero-mul, add-zero, zero-div, div-add-mod', mul-div-cancel, mul-mod-left, le-refl}
+use native.Mathlib.Nat.{mod-lt, mul-le-mul-right, mul-assoc, add-mul, zero-mul, add-zero, zero-div, div-add-mod', mul-div-cancel, mul-mod-left}
 use native.Mathlib.Omega.{arith}
-use lib.Dec.{ltb, eqb}
+use lib.Dec.{T, ltb, eqb}
 use lib.ListN.{length, getD, take, drop, replicate, getD-replicate, length-replicate, length-append, length-drop, List·getD-append}
 use lib.Seq.{getD-take, getD-drop, getD-append-add, length-take-le}
-use borrow.Author.Tests.{ltb-true, ltb-false, eqb-true}
+use borrow.Author.Tests.{ltb-true, ltb-false, ne-eqb, eqb-true, eqb-false}
 use Rattle.words.specs.Loops.{each}
-use Rattle.words.proofs.Filling.{each-of}
-use Rattle.words.proofs.Items.{item-inside, each-eq, whole-parts}
+use Rattle.words.proofs.Items.{item-inside, each-eq, parts, whole-parts}
 use Rattle.mode.specs.Table.{pce-sprite}
+use Rattle.tile.specs.Tile.{isNative}
 use Rattle.flip.proofs.Group.{place-lt}
-use Rattle.tileset.specs.Sets.{area, heldSays}
+use Rattle.tileset.specs.Sets.{area, setSays, heldSays}
 use Rattle.tileset.specs.Numbers.{rowCells, firstCell, Grid}
 use Rattle.tileset.specs.Writing.{paddedCells, cellCount, cellPixels, cellsOf, setBytes, writeSays}
-use Rattle.tileset.specs.Reading.{lastCell, wholeTiles, readCount, readSays, pixelIn, tileIn, readPixels, paddedTiles, tileCount}
+use Rattle.tileset.specs.Reading.{wholeTiles, tileSize, readCount, readSays, pixelIn, tileIn, readPixels, paddedTiles, tileCount}
 use Rattle.tileset.specs.declared.Set.{Set}
 use Rattle.tileset.proofs.Sizes.{IsSet, grid-set, bits-some}
 use Rattle.tileset.proofs.Says.{held-set, held-says-set}
-use Rattle.tileset.proofs.NumberLaws.{belongs-start, single-starts}
-use Rattle.tileset.proofs.WritingLaws.{held-inside, write-held, cell-set, cells-space, cell-blank}
-use Rattle.tileset.proofs.Written.{cell-back, tile-pixel}
-use Rattle.tileset.proofs.ReadingLaws.{strip-some, tile-complete, whole-only, whole-tiles-are, cells-before, readable-set, read-0}
+use Rattle.tileset.proofs.NumberLaws.{belongs-start}
+use Rattle.tileset.proofs.WritingLaws.{wide-cells, tall-cells, in-cells, native-tile, held-inside, write-held, cell-set, cells-space, written-size, tiles-space, cell-blank}
+use Rattle.tileset.proofs.Written.{cell-back, native-back, tile-pixel}
+use Rattle.tileset.proofs.ReadingLaws.{strip-some, tile-complete, whole-tiles-are, cells-before, cell-unit, cell-count, read-0, cell-pixel}
+use Rattle.tileset.proofs.Straight.{rows-of, tile-straight, native-all, native-read}
 
 -- What reading the bytes of a written set gives: its tiles and blank ones, and no refusal where there is room for them.
 pub record ReadsBack (z : Set) (store : List ℕ) : Type 0 where
@@ -37,26 +38,11 @@ pub record ReadsBack (z : Set) (store : List ℕ) : Type 0 where
       (left : ℕ) → tileCount (z .mode) (z .width) (z .height) (z .stored) * area z ≤ left → tileCount (z .mode) (z .width) (z .height) (z .stored) ≤ 65535
       → readSays (z .mode) (z .depth) (z .width) (z .height) (length (setBytes z store)) left ≡ 0
 
--- ---- rows of pixels, one after the other
-
-rows-of : (w h : ℕ) (l : List ℕ) (f : ℕ → ℕ → ℕ) → length l ≡ w * h → ((y x : ℕ) → y < h → x < w → f y x ≡ getD l (y * w + x) 0)
-    → each h (λ y. each w (λ x. f y x ∷ [])) ≡ l
-rows-of w h l f len is =
-    each-eq h (λ y. each w (λ x. f y x ∷ [])) (λ y. take w (drop (y * w) l))
-    (λ y hy.
-    let row = take w (drop (y * w) l) in
-    let inside : y * w + w ≤ h * w = item-inside w h y hy in
-    let long : length row ≡ w = length-take-le w (drop (y * w) l) (omega (arith, length-drop (y * w) l, mul-comm w h)) in
-    each-eq w (λ x. f y x ∷ []) (λ x. getD row x 0 ∷ [])
-    (λ x hx. ap (λ (k : ℕ). k ∷ []) (is y x hy hx ∙ sym (getD-take w (drop (y * w) l) x 0 hx ∙ getD-drop (y * w) l x 0)))
-    ∙ ap (λ (n : ℕ). each n (λ x. getD row x 0 ∷ [])) (sym long) ∙ each-of row)
-    ∙ whole-parts w h l (len ∙ mul-comm w h)
-
 -- ---- how many tiles the written cells hold
 
 module _ (r h v : ℕ) (g : Grid r h v) where
   -- whole strips of cells
-  whole-strips : (q : ℕ) → wholeTiles r h v (q * v * r) ≡ q * (r / h)
+  pub whole-strips : (q : ℕ) → wholeTiles r h v (q * v * r) ≡ q * (r / h)
   whole-strips q =
       let some : 0 < v * r = strip-some r h v g in
       let none : 0 - (v - 1) * r ≡ 0 = omega arith in
@@ -71,44 +57,34 @@ module _ (r h v : ℕ) (g : Grid r h v) where
   padded-more : (n : ℕ) → n ≤ paddedTiles (r / h) n
   padded-more n = omega (arith, div-add-mod' (n + (r / h - 1)) (r / h), mod-lt (n + (r / h - 1)) (g .tiles), g .tiles)
 
--- at 8x8 every cell is a tile
-pub single-tiles : (r n : ℕ) → wholeTiles r 1 1 n ≡ n
-single-tiles r n =
-    let last : (k : ℕ) → lastCell r 1 1 k ≡ k = λ k. omega (arith, single-starts r k, zero-mul r) in
-    whole-only r 1 1 n (λ k. omega (arith, last k)) n (λ k lt. omega (arith, last k)) (omega (arith, last n))
-
-module _ {m d w h : ℕ} (s : IsSet m d w h) (other : m ≡ pce-sprite → ⊥) (n : ℕ) where
+-- tiles that are not of a native size fill whole rows
+module _ {m d w h : ℕ} (s : IsSet m d w h) (many : isNative m w h ≡ false) (n : ℕ) where
   grid : Grid (rowCells m) (w / 8) (h / 8)
-  grid = grid-set s other
+  grid = grid-set s (in-cells s many)
 
-  abbrev rows : ℕ
-  rows = paddedTiles (rowCells m / (w / 8)) n
+  no-cell : w ≡ 8 → h ≡ 8 → ⊥
+  no-cell ew eh = subst T (rw (ew, eh, ne-eqb m pce-sprite (in-cells s many)) at many) tt
 
-  count-case : (a b : Bool) → eqb w 8 ≡ a → eqb h 8 ≡ b
-      → wholeTiles (rowCells m) (w / 8) (h / 8) (cond (a && b) n (paddedCells (rowCells m) (w / 8) (h / 8) n)) ≡ cond (a && b) n rows
-  count-case true true e f =
-      let across : w / 8 ≡ 1 = omega (arith, eqb-true w 8 e) in
-      let down : h / 8 ≡ 1 = omega (arith, eqb-true h 8 f) in
-      ap (λ (k : ℕ). wholeTiles (rowCells m) k (h / 8) n) across ∙ ap (λ (k : ℕ). wholeTiles (rowCells m) 1 k n) down ∙ single-tiles (rowCells m) n
-  count-case true false e f = padded-tiles (rowCells m) (w / 8) (h / 8) grid n
-  count-case false b e f = padded-tiles (rowCells m) (w / 8) (h / 8) grid n
+  cells-case : (b : Bool) → eqb w 8 ≡ b → paddedCells (rowCells m) (w / 8) (h / 8) n ≡ cellCount m w h n
+  cells-case true e = tall-cells m w h n (no-cell (eqb-true w 8 e))
+  cells-case false e = wide-cells m w h n (eqb-false w 8 e)
 
-  pub count-is : wholeTiles (rowCells m) (w / 8) (h / 8) (cellCount m w h n) ≡ tileCount m w h n
-  unfolding cellCount tileCount
-  count-is = count-case (eqb w 8) (eqb h 8) refl refl
+  pub rows-cells : paddedCells (rowCells m) (w / 8) (h / 8) n ≡ cellCount m w h n
+  rows-cells = cells-case (eqb w 8) refl
 
-  more-case : (a b : Bool) → n ≤ cond (a && b) n rows
-  more-case true true = le-refl n
-  more-case true false = padded-more (rowCells m) (w / 8) (h / 8) grid n
-  more-case false b = padded-more (rowCells m) (w / 8) (h / 8) grid n
-
-  pub count-more : n ≤ tileCount m w h n
+  rows-tiles : paddedTiles (rowCells m / (w / 8)) n ≡ tileCount m w h n
   unfolding tileCount
-  count-more = more-case (eqb w 8) (eqb h 8)
+  rows-tiles = rw many
 
--- ---- what was written is read
+  count-is : wholeTiles (rowCells m) (w / 8) (h / 8) (cellCount m w h n) ≡ tileCount m w h n
+  count-is = ap (wholeTiles (rowCells m) (w / 8) (h / 8)) (sym rows-cells) ∙ padded-tiles (rowCells m) (w / 8) (h / 8) grid n ∙ rows-tiles
 
-module _ (z : Set) (store : List ℕ) (space : ℕ) (done : writeSays z store space ≡ 0) (other : z .mode ≡ pce-sprite → ⊥) where
+  count-more : n ≤ tileCount m w h n
+  count-more = rw (← rows-tiles) (padded-more (rowCells m) (w / 8) (h / 8) grid n)
+
+-- ---- what was written is read: tiles in cells
+
+module _ (z : Set) (store : List ℕ) (space : ℕ) (done : writeSays z store space ≡ 0) (many : isNative (z .mode) (z .width) (z .height) ≡ false) where
   abbrev bytes : List ℕ
   bytes = setBytes z store
 
@@ -131,6 +107,9 @@ module _ (z : Set) (store : List ℕ) (space : ℕ) (done : writeSays z store sp
   sound : IsSet (z .mode) (z .depth) (z .width) (z .height)
   sound = held-set z (length store) held
 
+  other : z .mode ≡ pce-sprite → ⊥
+  other = in-cells sound many
+
   bytes-long : length bytes ≡ cellsOf z * (z .depth * 8)
   bytes-long = sym (cell-set z store held other .1) ∙ cells-space z store held other
 
@@ -141,10 +120,13 @@ module _ (z : Set) (store : List ℕ) (space : ℕ) (done : writeSays z store sp
   cells-there = ap (λ (k : ℕ). k / (z .depth * 8)) bytes-long ∙ mul-div-cancel (cellsOf z) {n = z .depth * 8} some
 
   read-count : readCount (z .mode) (z .depth) (z .width) (z .height) (length bytes) ≡ count
-  read-count = ap (λ (k : ℕ). wholeTiles (rowCells (z .mode)) (z .width / 8) (z .height / 8) k) cells-there ∙ count-is sound other (z .stored)
+  read-count =
+      sym (cell-count (z .mode) (z .depth) (z .width) (z .height) (length bytes) other)
+      ∙ ap (λ (k : ℕ). wholeTiles (rowCells (z .mode)) (z .width / 8) (z .height / 8) k) cells-there
+      ∙ count-is sound many (z .stored)
 
   stored-in : z .stored ≤ count
-  stored-in = count-more sound other (z .stored)
+  stored-in = count-more sound many (z .stored)
 
   front-long : length front ≡ z .stored * area z
   front-long = length-take-le (z .stored * area z) store (held-inside z (length store) held)
@@ -177,11 +159,13 @@ module _ (z : Set) (store : List ℕ) (space : ℕ) (done : writeSays z store sp
 
     cell-there : cell < cellsOf z
     cell-there =
-        let whole : t < wholeTiles r (z .width / 8) (z .height / 8) (cellsOf z) = omega (arith, count-is sound other (z .stored)) in
+        let whole : t < wholeTiles r (z .width / 8) (z .height / 8) (cellsOf z) = omega (arith, count-is sound many (z .stored)) in
         omega (arith, cells-before r (z .width / 8) (z .height / 8) t (y / 8) (x / 8) row-in column-in, tile-complete r (z .width / 8) (z .height / 8) (cellsOf z) t whole)
 
     unpacked-is : pixelIn (z .mode) (z .depth) (z .width) (z .height) bytes t y x ≡ getD (cellPixels z store cell) j 0
-    unpacked-is = ap (λ (l : List ℕ). getD l j 0) (cell-back z store space done other cell cell-there)
+    unpacked-is =
+        sym (cell-pixel (z .mode) (z .depth) (z .width) (z .height) bytes t y x other)
+        ∙ ap (λ (l : List ℕ). getD l j 0) (cell-back z store space done other cell cell-there)
 
     abbrev place : ℕ
     place = t * area z + y * z .width + x
@@ -232,12 +216,72 @@ module _ (z : Set) (store : List ℕ) (space : ℕ) (done : writeSays z store sp
       ∙ each-eq count (tileIn (z .mode) (z .depth) (z .width) (z .height) bytes) (λ t. take (area z) (drop (t * area z) tiles)) tile-back
       ∙ whole-parts (area z) count tiles tiles-long
 
-  not-refused : (left : ℕ) → count * area z ≤ left → count ≤ 65535 → readSays (z .mode) (z .depth) (z .width) (z .height) (length bytes) left ≡ 0
-  not-refused left fits few =
-      let says = sym (readable-set (z .mode) (z .depth) (z .width) (z .height) other) ∙ held-says-set z (length store) held in
-      let whole : length bytes % (z .depth * 8) ≡ 0 = ap (λ (k : ℕ). k % (z .depth * 8)) bytes-long ∙ mul-mod-left (cellsOf z) (z .depth * 8) in
-      sym (read-0 (z .mode) (z .depth) (z .width) (z .height) (length bytes) left says whole (rw read-count fits) (rw read-count few))
+  cells-passed : (left : ℕ) → count * area z ≤ left → count ≤ 65535 → readSays (z .mode) (z .depth) (z .width) (z .height) (length bytes) left ≡ 0
+  cells-passed left fits few =
+      let unit = cell-unit (z .mode) (z .depth) (z .width) (z .height) (length bytes) other in
+      let whole = ap (λ (k : ℕ). length bytes % k) (sym unit) ∙ ap (λ (k : ℕ). k % (z .depth * 8)) bytes-long ∙ mul-mod-left (cellsOf z) (z .depth * 8) in
+      sym (read-0 (z .mode) (z .depth) (z .width) (z .height) (length bytes) left (held-says-set z (length store) held) whole (rw read-count fits) (rw read-count few))
 
-  -- a set that was written, in any mode but pce_sprite, reads back
+  cells-back : ReadsBack z store
+  cells-back = record { count = read-count; pixels = pixels-back; passes = cells-passed }
+
+-- ---- tiles of a native size, sprites and 8x8: they are as many as were stored
+
+module _ (z : Set) (store : List ℕ) (space : ℕ) (done : writeSays z store space ≡ 0) (one : isNative (z .mode) (z .width) (z .height) ≡ true) where
+  sized : T (isNative (z .mode) (z .width) (z .height))
+  sized = subst T (sym one) tt
+
+  abbrev written : List ℕ
+  written = setBytes z store
+
+  fits : heldSays z (length store) ≡ 0
+  fits = write-held z store space done
+
+  allowed : setSays (z .mode) (z .depth) (z .width) (z .height) ≡ 0
+  allowed = held-says-set z (length store) fits
+
+  written-long : length written ≡ z .stored * tileSize (z .depth) (z .width) (z .height)
+  written-long = written-size z store fits ∙ sym (tiles-space z store fits sized)
+
+  stored-are : tileCount (z .mode) (z .width) (z .height) (z .stored) ≡ z .stored
+  unfolding tileCount
+  stored-are = rw one
+
+  stored-read : readCount (z .mode) (z .depth) (z .width) (z .height) (length written) ≡ z .stored
+  stored-read = rw written-long (native-all (z .mode) (z .depth) (z .width) (z .height) allowed sized (z .stored))
+
+  no-blanks : (tileCount (z .mode) (z .width) (z .height) (z .stored) - z .stored) * area z ≡ 0
+  no-blanks =
+      let none : tileCount (z .mode) (z .width) (z .height) (z .stored) - z .stored ≡ 0 = omega (arith, stored-are) in
+      ap (λ (k : ℕ). k * area z) none ∙ zero-mul (area z)
+
+  stored-pixels : readPixels (z .mode) (z .depth) (z .width) (z .height) written ≡ take (z .stored * area z) store
+  unfolding readPixels
+  stored-pixels =
+      ap (λ (k : ℕ). each k (tileIn (z .mode) (z .depth) (z .width) (z .height) written)) stored-read
+      ∙ each-eq (z .stored) (tileIn (z .mode) (z .depth) (z .width) (z .height) written) (λ i. take (area z) (drop (i * area z) store))
+      (λ i lt. tile-straight (native-tile z store fits sized) written i ∙ native-back z store space done sized i lt)
+      ∙ parts (area z) (z .stored) store (held-inside z (length store) fits)
+
+  tiles-passed : (left : ℕ) → tileCount (z .mode) (z .width) (z .height) (z .stored) * area z ≤ left → tileCount (z .mode) (z .width) (z .height) (z .stored) ≤ 65535
+      → readSays (z .mode) (z .depth) (z .width) (z .height) (length written) left ≡ 0
+  tiles-passed left = rw (stored-are, written-long) (native-read (z .mode) (z .depth) (z .width) (z .height) allowed sized (z .stored) left)
+
+  tiles-back : ReadsBack z store
+  tiles-back =
+      record {
+        count = stored-read ∙ sym stored-are;
+        pixels = stored-pixels ∙ sym (ap (λ (k : ℕ). take (z .stored * area z) store ++ replicate k 0) no-blanks ∙ append-nil (take (z .stored * area z) store));
+        passes = tiles-passed;
+      }
+
+-- ---- in every mode
+
+module _ (z : Set) (store : List ℕ) (space : ℕ) (done : writeSays z store space ≡ 0) where
+  back-case : (b : Bool) → isNative (z .mode) (z .width) (z .height) ≡ b → ReadsBack z store
+  back-case true e = tiles-back z store space done e
+  back-case false e = cells-back z store space done e
+
+  -- a set that was written reads back
   pub write-then-read : ReadsBack z store
-  write-then-read = record { count = read-count; pixels = pixels-back; passes = not-refused }
+  write-then-read = back-case (isNative (z .mode) (z .width) (z .height)) refl

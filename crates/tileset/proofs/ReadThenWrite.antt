@@ -1,27 +1,33 @@
--- What was read can be written: each pixel of a read set is below 2^depth, so that no number is left but 11.
+-- What was read can be written: each pixel of a read set is below 2^depth, so that no number is left but 11. And what it is written as.
 -- Assumes nothing.
-use mathlib.Core.Path.{_≡_, sym, ap, _∙_, subst}
-use mathlib.Core.Bool.{Bool}
+use mathlib.Core.Path.{_≡_, refl, sym, ap, ap₂, _∙_, subst}
+use mathlib.Core.Bool.{Bool, true, false}
 use mathlib.Core.List.{List}
 use Prim.Native.Nat.{ℕ, _+_, _*_, _/_, _%_, _^_, _<_, _≤_}
 use native.Mathlib.Nat.{mod-lt, mul-pos, mul-comm, div-add-mod', div-lt-iff-lt-mul}
 use native.Mathlib.Omega.{arith}
-use lib.ListN.{length, getD, drop, length-append, length-drop, List·getD-append}
+use lib.Dec.{T, eqb}
+use lib.ListN.{length, getD, take, drop, length-append, length-drop, List·getD-append}
+use borrow.Author.Tests.{eqb-true, eqb-false}
 use Rattle.words.specs.Answers.{overwrite}
+use Rattle.words.specs.Bytes.{areBytes}
 use Rattle.words.specs.Loops.{each}
 use Rattle.words.proofs.Answers.{when-done}
 use Rattle.words.proofs.Items.{item-getD, number-at}
-use Rattle.tile.proofs.Native.{Native}
+use Rattle.mode.specs.Table.{pce-sprite}
+use Rattle.tile.specs.Tile.{isNative}
 use Rattle.tile.proofs.Checks.{all-small}
 use Rattle.tileset.specs.Sets.{area, heldSays, noSet}
 use Rattle.tileset.specs.Numbers.{rowCells, firstCell}
-use Rattle.tileset.specs.Writing.{writeSize, writeSays}
-use Rattle.tileset.specs.Reading.{readCount, readSays, readSet, pixelIn, rowIn, tileIn, readPixels, Reads}
+use Rattle.tileset.specs.Writing.{setBytes, writeSize, writeSays}
+use Rattle.tileset.specs.Reading.{tileSize, unitBytes, readCount, readSays, readSet, pixelIn, rowIn, tileIn, readPixels, bytesAgain, rowBytes, Reads}
 use Rattle.tileset.specs.declared.Set.{Set}
 use Rattle.tileset.specs.declared.SetAnswer.{SetAnswer}
 use Rattle.tileset.proofs.Sizes.{IsSet}
-use Rattle.tileset.proofs.WritingLaws.{native-cell, write-0}
-use Rattle.tileset.proofs.ReadingLaws.{readable-mode, read-readable, read-set-of, read-space, read-held, read-length, cell-in-small, row-in-length, tile-length}
+use Rattle.tileset.proofs.WritingLaws.{native-cell, native-sprite, write-0}
+use Rattle.tileset.proofs.ReadingLaws.{read-whole, read-set-of, read-space, read-held, read-length, unpacked-small, cell-in-small, cell-pixel, row-in-length, tile-length}
+use Rattle.tileset.proofs.Straight.{tile-straight}
+use Rattle.tileset.proofs.Again.{written-again, again-same, native-rows, only-rows}
 
 -- numbers below b in each item, each of k numbers
 each-small : (k n b : ℕ) (f : ℕ → List ℕ) → 0 < k → ((i : ℕ) → length (f i) ≡ k) → ((i j : ℕ) → j < k → getD (f i) j 0 < b)
@@ -32,16 +38,25 @@ each-small k n b f some size small i lt =
     (rw (item-getD k f size n (i / k) (div-lt-iff-lt-mul some .1 lt) (i % k) inside) (small (i / k) (i % k) inside))
 
 -- so it is of the pixels of every tile, row by row
-module _ {m d w h : ℕ} (s : IsSet m d w h) (n : Native m d 8 8) (bytes : List ℕ) where
-  pixel-small : (t y x : ℕ) → pixelIn m d w h bytes t y x < 2 ^ d
-  pixel-small t y x = cell-in-small n bytes (firstCell m w h t + y / 8 * rowCells m + x / 8) (y % 8 * 8 + x % 8) (omega arith)
+module _ {m d w h : ℕ} (s : IsSet m d w h) (bytes : List ℕ) where
+  module _ (other : m ≡ pce-sprite → ⊥) where
+    pixel-small : (t y x : ℕ) → pixelIn m d w h bytes t y x < 2 ^ d
+    pixel-small t y x =
+        rw (← cell-pixel m d w h bytes t y x other)
+        (cell-in-small (native-cell s other) bytes (firstCell m w h t + y / 8 * rowCells m + x / 8) (y % 8 * 8 + x % 8) (omega arith))
 
-  row-small : (t y x : ℕ) → x < w → getD (rowIn m d w h bytes t y) x 0 < 2 ^ d
-  row-small t y x lt = rw (number-at w (pixelIn m d w h bytes t y) x lt) (pixel-small t y x)
+    row-small : (t y x : ℕ) → x < w → getD (rowIn m d w h bytes t y) x 0 < 2 ^ d
+    row-small t y x lt = rw (number-at w (pixelIn m d w h bytes t y) x lt) (pixel-small t y x)
+
+  small-case : (b : Bool) → eqb m pce-sprite ≡ b → (t i : ℕ) → i < w * h → getD (tileIn m d w h bytes t) i 0 < 2 ^ d
+  small-case true e t i lt =
+      let sprite = native-sprite s (eqb-true m pce-sprite e) in
+      rw (tile-straight sprite bytes t) (unpacked-small sprite (take (tileSize d w h) (drop (t * tileSize d w h) bytes)) i lt)
+  small-case false e t i lt =
+      each-small w h (2 ^ d) (rowIn m d w h bytes t) (s .some) (row-in-length m d w h bytes t) (row-small (eqb-false m pce-sprite e) t) i (omega (arith, mul-comm w h))
 
   tile-small : (t i : ℕ) → i < w * h → getD (tileIn m d w h bytes t) i 0 < 2 ^ d
-  tile-small t i lt =
-      each-small w h (2 ^ d) (rowIn m d w h bytes t) (s .some) (row-in-length m d w h bytes t) (row-small t) i (omega (arith, mul-comm w h))
+  tile-small = small-case (eqb m pce-sprite) refl
 
   pixels-small : (i : ℕ) → i < readCount m d w h (length bytes) * (w * h) → getD (readPixels m d w h bytes) i 0 < 2 ^ d
   unfolding readPixels
@@ -70,13 +85,10 @@ module _ (m d w h : ℕ) (flips : Bool) (bytes store : List ℕ) (r : SetAnswer)
   sound : IsSet m d w h
   sound = read-set-of m d w h (length bytes) (length store) says
 
-  cell : Native m d 8 8
-  cell = native-cell sound (readable-mode m d w h (read-readable m d w h (length bytes) (length store) says))
-
   small : (i : ℕ) → i < count * (w * h) → getD after i 0 < 2 ^ d
   small i lt =
       let inside : i < length pixels = omega (arith, read-length m d w h bytes) in
-      rw (left-is, List·getD-append pixels (drop (length pixels) store) 0 i inside) (pixels-small sound cell bytes i lt)
+      rw (left-is, List·getD-append pixels (drop (length pixels) store) 0 i inside) (pixels-small sound bytes i lt)
 
   long : length after ≡ length store
   long =
@@ -95,3 +107,28 @@ module _ (m d w h : ℕ) (flips : Bool) (bytes store : List ℕ) (r : SetAnswer)
   read-writes space =
       subst (λ (z : Set). writeSize z ≤ space → writeSays z after space ≡ 0) (sym set-is)
       (λ fits. sym (write-0 (readSet m d w h flips count) after space held (all-small (count * (w * h)) d after small) fits))
+
+  -- ---- what it is written as
+
+  whole : length bytes % unitBytes m d w h ≡ 0
+  whole = read-whole m d w h (length bytes) (length store) says
+
+  held-after : heldSays (readSet m d w h flips count) (length (overwrite store pixels)) ≡ 0
+  held-after = rw (← left-is) held
+
+  written-is : setBytes (r .set) after ≡ setBytes (readSet m d w h flips count) (overwrite store pixels)
+  written-is = ap₂ setBytes set-is left-is
+
+  pub read-then-write : T (areBytes bytes) → setBytes (r .set) after ≡ bytesAgain m d w h bytes
+  read-then-write are = written-is ∙ written-again sound flips bytes (drop (length pixels) store) whole held-after are
+
+  -- the same bytes where they are whole rows of tiles, and nowhere else
+  pub rows-again : T (areBytes bytes) → length bytes % rowBytes m d w h ≡ 0 → setBytes (r .set) after ≡ bytes
+  rows-again are rows = read-then-write are ∙ again-same sound flips bytes (drop (length pixels) store) whole held-after rows
+
+  pub again-rows : setBytes (r .set) after ≡ bytes → length bytes % rowBytes m d w h ≡ 0
+  again-rows e = only-rows sound flips bytes (drop (length pixels) store) whole held-after (sym written-is ∙ e)
+
+  -- so that those of a native size, sprites and 8x8, are always the same bytes
+  pub native-again : T (areBytes bytes) → isNative m w h ≡ true → setBytes (r .set) after ≡ bytes
+  native-again are one = rows-again are (native-rows sound flips bytes (drop (length pixels) store) whole held-after one)

@@ -9,7 +9,7 @@ use native.Mathlib.Nat.{mod-lt, div-le-self, mul-le-mul, mul-le-mul-left, mul-le
 use native.Mathlib.Omega.{arith}
 use lib.Dec.{ltb, eqb}
 use lib.ListN.{length, getD, drop, take, length-append, length-drop, List·getD-append}
-use borrow.Author.Tests.{eq-eqb, ne-eqb, lt-ltb, le-ltb, ltb-true, ltb-false}
+use borrow.Author.Tests.{eq-eqb, ne-eqb, eqb-true, lt-ltb, le-ltb, ltb-true, ltb-false, not-false}
 use Rattle.words.specs.Answers.{_when_, firstApplying, overwrite}
 use Rattle.words.specs.Inner.{eight}
 use Rattle.words.specs.Loops.{each}
@@ -17,16 +17,16 @@ use Rattle.words.proofs.Answers.{all-passed, not-given, when-done, when-refused
 use Rattle.words.proofs.Items.{item-getD, item-inside, item-end, each-eq, each-each}
 use Rattle.words.proofs.Loops.{length-each}
 use Rattle.words.proofs.Order.{checks-after, checks-first, checks-given, checks-rest}
-use Rattle.mode.specs.Table.{hasDepth, pce-sprite}
+use Rattle.mode.specs.Table.{pce-sprite}
 use Rattle.tile.specs.Inner.{Unpacks, byteCount, unpackedIn}
 use Rattle.tile.specs.Tile.{packingOf, layoutOf, unpacked}
 use Rattle.tile.specs.declared.Packing.{Packing}
 use Rattle.tile.proofs.Native.{Native, fitting}
 use Rattle.tile.proofs.RoundTrip.{length-spread, spread-lt}
 use Rattle.flip.proofs.Group.{place-lt, place-row, place-column}
-use Rattle.tileset.specs.Sets.{isSize, setSays, setRoom, heldSays, noSet, roomUnder}
+use Rattle.tileset.specs.Sets.{setChecks, setSays, setRoom, heldSays, noSet, roomUnder}
 use Rattle.tileset.specs.Numbers.{rowCells, startsAt, firstCell, Grid}
-use Rattle.tileset.specs.Reading.{lastCell, wholeFrom, wholeTiles, readCount, readableChecks, readableSays, readSays, readSet, cellIn, pixelIn, rowIn, tileIn, readPixels, Reads}
+use Rattle.tileset.specs.Reading.{lastCell, wholeFrom, wholeTiles, tileSize, unitBytes, readCount, readSays, readSet, cellIn, pixelIn, rowIn, tileIn, readPixels, Reads}
 use Rattle.tileset.specs.Inner.{cellsIn, placeIn, rowOf}
 use Rattle.tileset.specs.declared.Set.{Set}
 use Rattle.tileset.specs.declared.SetAnswer.{SetAnswer}
@@ -157,108 +157,139 @@ module _ (r h v : ℕ) (g : Grid r h v) where
         let none : rest ≡ 0 = omega arith in
         sym (whole-tiles-are ∙ ap (λ (k : ℕ). c / strip * tiles + k / h) none ∙ ap (λ (k : ℕ). c / strip * tiles + k) (zero-div h) ∙ add-zero (c / strip * tiles))
 
+-- ---- sprites one after the other, other tiles by their cells
+
+module _ (m d w h len : ℕ) where
+  pub sprite-unit : m ≡ pce-sprite → tileSize d w h ≡ unitBytes m d w h
+  unfolding unitBytes
+  sprite-unit is = rw (eq-eqb m pce-sprite is)
+
+  pub cell-unit : (m ≡ pce-sprite → ⊥) → d * 8 ≡ unitBytes m d w h
+  unfolding unitBytes
+  cell-unit other = rw (ne-eqb m pce-sprite other)
+
+  pub sprite-count : m ≡ pce-sprite → len / tileSize d w h ≡ readCount m d w h len
+  unfolding readCount
+  sprite-count is = rw (eq-eqb m pce-sprite is)
+
+  pub cell-count : (m ≡ pce-sprite → ⊥) → wholeTiles (rowCells m) (w / 8) (h / 8) (len / (d * 8)) ≡ readCount m d w h len
+  unfolding readCount
+  cell-count other = rw (ne-eqb m pce-sprite other)
+
+module _ {m d w h : ℕ} (s : IsSet m d w h) where
+  pub bytes-some : 0 < tileSize d w h
+  bytes-some =
+      let cell : 8 ≤ w = omega (arith, s .some, s .across) in
+      let wide : 8 * 1 ≤ w * h = mul-le-mul cell (s .tall) in
+      let deep : 8 * 1 * 1 ≤ w * h * d = mul-le-mul wide (bits-some s) in
+      omega arith
+
+  unit-case : (b : Bool) → 0 < cond b (tileSize d w h) (d * 8)
+  unit-case true = bytes-some
+  unit-case false = omega (arith, bits-some s)
+
+  pub unit-some : 0 < unitBytes m d w h
+  unfolding unitBytes
+  unit-some = unit-case (eqb m pce-sprite)
+
 -- ---- the checks
 
-zero-second : (n : ℕ) (ns : List ℕ) → firstApplying (n ∷ 0 ∷ ns) ≡ firstApplying (n ∷ ns)
-zero-second zero ns = refl
-zero-second (suc n) ns = refl
+module _ (m d w h len space : ℕ) where
+  abbrev count : ℕ
+  count = readCount m d w h len
 
-module _ (m d w h : ℕ) where
-  pub readable-2 : m ≡ pce-sprite → 2 ≡ readableSays m d w h
-  unfolding readableSays
-  readable-2 e = rw e
+  abbrev part : ℕ
+  part = len % unitBytes m d w h
 
-  pub readable-set : (m ≡ pce-sprite → ⊥) → setSays m d w h ≡ readableSays m d w h
-  unfolding readableSays setSays
-  readable-set other =
-      sym (zero-second (1 when ltb 15 m) (3 when not (hasDepth m d) ∷ 4 when not (isSize m w h) ∷ []))
-      ∙ ap (λ (b : Bool). firstApplying (1 when ltb 15 m ∷ 2 when b ∷ 3 when not (hasDepth m d) ∷ 4 when not (isSize m w h) ∷ [])) (sym (ne-eqb m pce-sprite other))
+  abbrev last : List ℕ
+  last = 7 when not (eqb part 0) ∷ 11 when ltb space (count * (w * h)) ∷ 12 when ltb 65535 count ∷ []
 
-  module _ (z : readableSays m d w h ≡ 0) where
-    pub readable-mode : m ≡ pce-sprite → ⊥
-    readable-mode e = let q : _≡_ {A = ℕ} 2 0 = readable-2 e ∙ z in omega arith
+  pub read-first : (n : ℕ) → n ≡ setSays m d w h → (n ≡ 0 → ⊥) → n ≡ readSays m d w h len space
+  unfolding readSays setSays
+  read-first n e due = checks-given (setChecks m d w h) last n e due
 
-    pub readable-says-set : setSays m d w h ≡ 0
-    readable-says-set = readable-set readable-mode ∙ z
+  module _ (z : setSays m d w h ≡ 0) where
+    after : readSays m d w h len space ≡ firstApplying last
+    unfolding readSays setSays
+    after = checks-after (setChecks m d w h) last z
 
-  module _ (len space : ℕ) where
-    abbrev count : ℕ
-    count = readCount m d w h len
+    pub read-7 : (part ≡ 0 → ⊥) → 7 ≡ readSays m d w h len space
+    read-7 e = rw (after, ne-eqb part 0 e)
 
-    abbrev last : List ℕ
-    last = 7 when not (eqb (len % (d * 8)) 0) ∷ 11 when ltb space (count * (w * h)) ∷ 12 when ltb 65535 count ∷ []
+    pub read-11 : part ≡ 0 → space < count * (w * h) → 11 ≡ readSays m d w h len space
+    read-11 whole lt = rw (after, eq-eqb part 0 whole, lt-ltb space (count * (w * h)) lt)
 
-    pub read-first : (n : ℕ) → n ≡ readableSays m d w h → (n ≡ 0 → ⊥) → n ≡ readSays m d w h len space
-    unfolding readSays readableSays
-    read-first n e due = checks-given (readableChecks m d w h) last n e due
+    pub read-12 : part ≡ 0 → count * (w * h) ≤ space → 65535 < count → 12 ≡ readSays m d w h len space
+    read-12 whole le lt = rw (after, eq-eqb part 0 whole, le-ltb space (count * (w * h)) le, lt-ltb 65535 count lt)
 
-    module _ (z : readableSays m d w h ≡ 0) where
-      after : readSays m d w h len space ≡ firstApplying last
-      unfolding readSays readableSays
-      after = checks-after (readableChecks m d w h) last z
+    pub read-0 : part ≡ 0 → count * (w * h) ≤ space → count ≤ 65535 → 0 ≡ readSays m d w h len space
+    read-0 whole le few = rw (after, eq-eqb part 0 whole, le-ltb space (count * (w * h)) le, le-ltb 65535 count few)
 
-      pub read-7 : (len % (d * 8) ≡ 0 → ⊥) → 7 ≡ readSays m d w h len space
-      read-7 part = rw (after, ne-eqb (len % (d * 8)) 0 part)
+  module _ (z : readSays m d w h len space ≡ 0) where
+    pub read-says-set : setSays m d w h ≡ 0
+    unfolding readSays setSays
+    read-says-set = checks-first (setChecks m d w h) last z
 
-      pub read-11 : len % (d * 8) ≡ 0 → space < count * (w * h) → 11 ≡ readSays m d w h len space
-      read-11 whole lt = rw (after, eq-eqb (len % (d * 8)) 0 whole, lt-ltb space (count * (w * h)) lt)
+    passed : (k : ℕ) → getD last k 0 ≡ 0
+    unfolding readSays
+    passed = all-passed last (checks-rest (setChecks m d w h) last z)
 
-      pub read-12 : len % (d * 8) ≡ 0 → count * (w * h) ≤ space → 65535 < count → 12 ≡ readSays m d w h len space
-      read-12 whole le lt = rw (after, eq-eqb (len % (d * 8)) 0 whole, le-ltb space (count * (w * h)) le, lt-ltb 65535 count lt)
+    pub read-whole : part ≡ 0
+    read-whole = eqb-true part 0 (not-false (eqb part 0) (not-given 6 (not (eqb part 0)) (passed 0)))
 
-      pub read-0 : len % (d * 8) ≡ 0 → count * (w * h) ≤ space → count ≤ 65535 → 0 ≡ readSays m d w h len space
-      read-0 whole le few = rw (after, eq-eqb (len % (d * 8)) 0 whole, le-ltb space (count * (w * h)) le, le-ltb 65535 count few)
+    pub read-space : count * (w * h) ≤ space
+    read-space = ltb-false space (count * (w * h)) (not-given 10 (ltb space (count * (w * h))) (passed 1))
 
-    module _ (z : readSays m d w h len space ≡ 0) where
-      pub read-readable : readableSays m d w h ≡ 0
-      unfolding readSays readableSays
-      read-readable = checks-first (readableChecks m d w h) last z
+    pub read-few : count ≤ 65535
+    read-few = ltb-false 65535 count (not-given 11 (ltb 65535 count) (passed 2))
 
-      passed : (k : ℕ) → getD last k 0 ≡ 0
-      unfolding readSays
-      passed = all-passed last (checks-rest (readableChecks m d w h) last z)
+    pub read-set-of : IsSet m d w h
+    read-set-of = set-of m d w h read-says-set
 
-      pub read-space : count * (w * h) ≤ space
-      read-space = ltb-false space (count * (w * h)) (not-given 10 (ltb space (count * (w * h))) (passed 1))
+    -- what was read is a set in its store
+    pub read-held : (flips : Bool) → heldSays (readSet m d w h flips count) space ≡ 0
+    unfolding setRoom roomUnder
+    read-held flips =
+        let s = read-set-of in
+        let whole : count ≤ space / (w * h) = le-div-iff-mul-le {k = w * h} (mul-pos (s .some) (s .tall)) .1 read-space in
+        sym (held-0 (readSet m d w h flips count) space read-says-set (omega (arith, read-few)))
 
-      pub read-few : count ≤ 65535
-      read-few = ltb-false 65535 count (not-given 11 (ltb 65535 count) (passed 2))
+-- ---- unpacking one of several native tiles of a buffer
 
-      pub read-set-of : IsSet m d w h
-      read-set-of = set-of m d w h (readable-says-set read-readable)
+module _ {m d w h : ℕ} (n : Native m d w h) where
+  pub unpacked-length : (bytes : List ℕ) → length (unpacked m d w h bytes) ≡ w * h
+  unpacked-length bytes = length-spread (layoutOf m d w h .pixels) bytes ∙ fitting n .pixels
 
-      -- what was read is a set in its store
-      pub read-held : (flips : Bool) → heldSays (readSet m d w h flips count) space ≡ 0
-      unfolding setRoom roomUnder
-      read-held flips =
-          let s = read-set-of in
-          let whole : count ≤ space / (w * h) = le-div-iff-mul-le {k = w * h} (mul-pos (s .some) (s .tall)) .1 read-space in
-          sym (held-0 (readSet m d w h flips count) space (readable-says-set read-readable) (omega (arith, read-few)))
+  pub unpacked-small : (bytes : List ℕ) (i : ℕ) → i < w * h → getD (unpacked m d w h bytes) i 0 < 2 ^ d
+  unpacked-small bytes i lt =
+      subst (λ (k : ℕ). getD (unpacked m d w h bytes) i 0 < 2 ^ k) (fitting n .bits) (spread-lt (layoutOf m d w h .pixels) bytes i (rw (fitting n .pixels) lt))
+
+  module _ {p : Packing} (q : p ≡ packingOf m d w h) where
+    pub unpacks-at : (bytes out : List ℕ) (from at : ℕ) → from + tileSize d w h ≤ length bytes → at + w * h ≤ length out → Unpacks p bytes from out at
+    unpacks-at bytes out from at inside space =
+        subst (λ (k : Packing). Unpacks k bytes from out at) (sym q)
+        (record { sound = fitting n .sound; inside = omega (arith, fitting n .bytes); space = omega (arith, fitting n .pixels) })
+
+    pub unpacks-tile : (bytes : List ℕ) (from : ℕ) → unpackedIn p (take (byteCount p) (drop from bytes)) ≡ unpacked m d w h (take (tileSize d w h) (drop from bytes))
+    unpacks-tile bytes from =
+        ap (λ (k : Packing). unpackedIn k (take (byteCount k) (drop from bytes))) q
+        ∙ ap (λ (k : ℕ). unpacked m d w h (take k (drop from bytes))) (fitting n .bytes)
 
 -- ---- cells
 
--- unpacking one of several native cells of a buffer
-module _ {m d : ℕ} (n : Native m d 8 8) where
-  cell-bytes : byteCount (packingOf m d 8 8) ≡ d * 8
-  cell-bytes = fitting n .bytes ∙ omega arith
+pub cell-size : (d : ℕ) → tileSize d 8 8 ≡ d * 8
+cell-size d = omega arith
 
+module _ {m d : ℕ} (n : Native m d 8 8) where
   pub cell-in-length : (bytes : List ℕ) (c : ℕ) → length (cellIn m d bytes c) ≡ 64
-  cell-in-length bytes c = length-spread (layoutOf m d 8 8 .pixels) (take (d * 8) (drop (c * (d * 8)) bytes)) ∙ fitting n .pixels
+  cell-in-length bytes c = unpacked-length n (take (d * 8) (drop (c * (d * 8)) bytes))
 
   pub cell-in-small : (bytes : List ℕ) (c j : ℕ) → j < 64 → getD (cellIn m d bytes c) j 0 < 2 ^ d
-  cell-in-small bytes c j lt =
-      subst (λ (k : ℕ). getD (cellIn m d bytes c) j 0 < 2 ^ k) (fitting n .bits)
-      (spread-lt (layoutOf m d 8 8 .pixels) (take (d * 8) (drop (c * (d * 8)) bytes)) j (rw (fitting n .pixels) lt))
+  cell-in-small bytes c = unpacked-small n (take (d * 8) (drop (c * (d * 8)) bytes))
 
-  module _ {p : Packing} (q : p ≡ packingOf m d 8 8) where
-    pub unpacks-at : (bytes out : List ℕ) (from at : ℕ) → from + d * 8 ≤ length bytes → at + 64 ≤ length out → Unpacks p bytes from out at
-    unpacks-at bytes out from at inside space =
-        subst (λ (k : Packing). Unpacks k bytes from out at) (sym q)
-        (record { sound = fitting n .sound; inside = omega (arith, cell-bytes); space = omega (arith, fitting n .pixels) })
-
-    pub unpacks-cell : (bytes : List ℕ) (from : ℕ) → unpackedIn p (take (byteCount p) (drop from bytes)) ≡ unpacked m d 8 8 (take (d * 8) (drop from bytes))
-    unpacks-cell bytes from =
-        ap (λ (k : Packing). unpackedIn k (take (byteCount k) (drop from bytes))) q ∙ ap (λ (k : ℕ). unpacked m d 8 8 (take k (drop from bytes))) cell-bytes
+  pub unpacks-cell : {p : Packing} → p ≡ packingOf m d 8 8 → (bytes : List ℕ) (from : ℕ)
+      → unpackedIn p (take (byteCount p) (drop from bytes)) ≡ unpacked m d 8 8 (take (d * 8) (drop from bytes))
+  unpacks-cell q bytes from = unpacks-tile n q bytes from ∙ ap (λ (k : ℕ). unpacked m d 8 8 (take k (drop from bytes))) (cell-size d)
 
 -- a tile has as many pixels as its cells
 pub cells-area : {m d w h : ℕ} → IsSet m d w h → w / 8 * (h / 8) * 64 ≡ w * h
@@ -330,8 +361,13 @@ row-eights w cells y across =
 pub row-length : (w : ℕ) (cells : List ℕ) (y : ℕ) → length (rowOf w cells y) ≡ w
 row-length w cells y = length-each w 1 (λ x. getD cells (placeIn w y x) 0 ∷ []) (λ x. refl) ∙ mul-one w
 
+pub cell-pixel : (m d w h : ℕ) (bytes : List ℕ) (t y x : ℕ) → (m ≡ pce-sprite → ⊥)
+    → getD (cellIn m d bytes (firstCell m w h t + y / 8 * rowCells m + x / 8)) (y % 8 * 8 + x % 8) 0 ≡ pixelIn m d w h bytes t y x
+unfolding pixelIn
+cell-pixel m d w h bytes t y x other = rw (ne-eqb m pce-sprite other)
+
 -- they are the rows of the tile
-module _ {m d w h : ℕ} (s : IsSet m d w h) (n : Native m d 8 8) (bytes rest : List ℕ) (t : ℕ) where
+module _ {m d w h : ℕ} (s : IsSet m d w h) (other : m ≡ pce-sprite → ⊥) (n : Native m d 8 8) (bytes rest : List ℕ) (t : ℕ) where
   abbrev f : ℕ → List ℕ
   f k = cellIn m d bytes (firstCell m w h t + k / (w / 8) * rowCells m + k % (w / 8))
 
@@ -351,6 +387,7 @@ module _ {m d w h : ℕ} (s : IsSet m d w h) (n : Native m d 8 8) (bytes rest : 
       ∙ item-getD 64 f size (hw * (h / 8)) i in-tile j small
       ∙ ap (λ (k : ℕ). getD (cellIn m d bytes (firstCell m w h t + k * rowCells m + i % hw)) j 0) (place-row hw (y / 8) (x / 8) column)
       ∙ ap (λ (k : ℕ). getD (cellIn m d bytes (firstCell m w h t + y / 8 * rowCells m + k)) j 0) (place-column hw (y / 8) (x / 8) column)
+      ∙ cell-pixel m d w h bytes t y x other
 
   -- the buffer is as long with them as it was
   pub cells-long : (before cells : List ℕ) → cells ≡ overwrite before (cellsIn m d w h bytes t) → length before ≡ 4096 → length cells ≡ 4096
@@ -378,12 +415,12 @@ read-length m d w h bytes = length-each (readCount m d w h (length bytes)) (w * 
 
 -- ---- the tiles
 
-module _ {m d w h : ℕ} (s : IsSet m d w h) (len : ℕ) where
+module _ {m d w h : ℕ} (s : IsSet m d w h) (other : m ≡ pce-sprite → ⊥) (len : ℕ) where
   -- the bytes have the cells of each tile that is read
   pub tile-inside : (n : ℕ) → n < readCount m d w h len → (lastCell (rowCells m) (w / 8) (h / 8) n + 1) * (d * 8) ≤ len
   tile-inside n lt =
       let size : 0 < d * 8 = omega (arith, bits-some s) in
-      let last = tile-complete (rowCells m) (w / 8) (h / 8) (len / (d * 8)) n lt in
+      let last = tile-complete (rowCells m) (w / 8) (h / 8) (len / (d * 8)) n (rw (cell-count m d w h len other) lt) in
       le-div-iff-mul-le {k = d * 8} size .0 (omega arith)
 
 -- ---- the promise

@@ -18,7 +18,7 @@ use Rattle.tileset.proofs.Stores.{tiles-more}
 use Rattle.tileset.proofs.ReadingLaws.{tile-length}
 
 -- item i of some, where more follow
-item-front : (k : ℕ) (f : ℕ → List ℕ) → ((i : ℕ) → length (f i) ≡ k) → (n : ℕ) (rest : List ℕ) (i : ℕ) → i < n → take k (drop (i * k) (each n f ++ rest)) ≡ f i
+pub item-front : (k : ℕ) (f : ℕ → List ℕ) → ((i : ℕ) → length (f i) ≡ k) → (n : ℕ) (rest : List ℕ) (i : ℕ) → i < n → take k (drop (i * k) (each n f ++ rest)) ≡ f i
 item-front k f size n rest i lt =
     let space = item-inside k n i lt in
     let len = length-each n k f size in

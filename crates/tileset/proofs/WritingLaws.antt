@@ -113,6 +113,20 @@ native-sprite {m} {d} {w} {h} s is =
     let same : T (isSize m w h) → T (isNative m w h) = subst (λ (k : ℕ). T (isSize k w h) → T (isNative k w h)) (sym is) (λ t. t) in
     record { mode = s .mode; depth = s .depth; size = same (s .size) }
 
+-- tiles of another size are no sprites
+pub in-cells : {m d w h : ℕ} → IsSet m d w h → isNative m w h ≡ false → m ≡ pce-sprite → ⊥
+in-cells s many is = subst T many (native-sprite s is .size)
+
+-- a native size is a sprite's, or 8x8
+pub native-single : {m d w h : ℕ} → Native m d w h → (m ≡ pce-sprite → ⊥) → (w ≡ 8) × (h ≡ 8)
+native-single {m} {d} {w} {h} n other =
+    let wide = oneOf w (8 ∷ []) in
+    let tall = oneOf h (8 ∷ []) in
+    let both : T (wide && tall) = rw (ne-eqb m pce-sprite other) at (n .size) in (
+      eqb→eq w 8 (each-at (8 ∷ []) (λ k. eqb k 8) tt w (both-left wide tall both)),
+      eqb→eq h 8 (each-at (8 ∷ []) (λ k. eqb k 8) tt h (both-right wide tall both)),
+    )
+
 pub packed-length : {m d w h : ℕ} → Native m d w h → (pixels : List ℕ) → length (packed m d w h pixels) ≡ w * h * d / 8
 packed-length {m} {d} {w} {h} n pixels = length-spread (layoutOf m d w h .bytes) pixels ∙ fitting n .bytes
 
@@ -253,10 +267,6 @@ module _ (z : Set) (store : List ℕ) (held : heldSays z (length store) ≡ 0) w
   unfolding writeSize
   cells-space other = rw (ne-eqb (z .mode) pce-sprite other)
 
-  -- a set whose size is not native is no set of sprites
-  pub no-sprite : isNative (z .mode) (z .width) (z .height) ≡ false → z .mode ≡ pce-sprite → ⊥
-  no-sprite e is = subst T e (native-sprite (held-set z (length store) held) is .size)
-
   -- ---- tiles of a native size, sprites or 8x8: their bytes stand one after the other
   module _ (native : T (isNative (z .mode) (z .width) (z .height))) where
     pub native-tile : Native (z .mode) (z .depth) (z .width) (z .height)
@@ -268,13 +278,7 @@ module _ (z : Set) (store : List ℕ) (held : heldSays z (length store) ≡ 0) w
     -- at 8x8 a cell is a tile
     module _ (other : z .mode ≡ pce-sprite → ⊥) where
       single : (z .width ≡ 8) × (z .height ≡ 8)
-      single =
-          let w = oneOf (z .width) (8 ∷ []) in
-          let h = oneOf (z .height) (8 ∷ []) in
-          let both : T (w && h) = rw (ne-eqb (z .mode) pce-sprite other) at native in (
-            eqb→eq (z .width) 8 (each-at (8 ∷ []) (λ k. eqb k 8) tt (z .width) (both-left w h both)),
-            eqb→eq (z .height) 8 (each-at (8 ∷ []) (λ k. eqb k 8) tt (z .height) (both-right w h both)),
-          )
+      single = native-single native-tile other
 
       tile-is : (i : ℕ) → tileAt z i ≡ i
       tile-is i = rw (single .0, single .1) (tile-8 (z .mode) i)

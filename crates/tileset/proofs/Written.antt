@@ -1,4 +1,4 @@
--- What was written holds the set: each cell's bytes, unpacked, are the cell's pixels, and each sprite's are the sprite's.
+-- What was written holds the set: each cell's bytes, unpacked, are the cell's pixels, and so are those of a tile of a native size.
 -- Assumes nothing.
 use mathlib.Core.Path.{_≡_, refl, sym, ap, _∙_, subst}
 use mathlib.Core.Bool.{Bool, true, false, cond, _&&_}
@@ -6,14 +6,14 @@ use mathlib.Core.List.{List}
 use Prim.Native.Nat.{ℕ, _+_, _-_, _*_, _/_, _%_, _^_, _<_, _≤_}
 use native.Mathlib.Nat.{add-mul, div-add-mod', zero-mul, mul-comm, mod-lt, mul-le-mul-right, le-div-iff-mul-le}
 use native.Mathlib.Omega.{arith}
-use lib.Dec.{ltb, eqb}
+use lib.Dec.{T, ltb, eqb}
 use lib.ListN.{length, getD, take, drop, replicate, getD-replicate, length-drop}
 use lib.Pow.{pow-pos}
 use lib.Seq.{getD-take, getD-drop, length-take-le}
 use borrow.Author.Tests.{leb-false, ltb-true, eqb-true}
 use Rattle.words.proofs.Items.{item-at, item-inside, none-at, number-at}
 use Rattle.mode.specs.Table.{pce-sprite}
-use Rattle.tile.specs.Tile.{packingOf, packed, unpacked, tooLarge}
+use Rattle.tile.specs.Tile.{isNative, packingOf, packed, unpacked, tooLarge}
 use Rattle.tile.proofs.Native.{Native, fitting}
 use Rattle.tile.proofs.Laws.{pixels-back-in}
 use Rattle.flip.proofs.Group.{place-lt}
@@ -24,7 +24,7 @@ use Rattle.tileset.specs.declared.Set.{Set}
 use Rattle.tileset.proofs.Sizes.{IsSet, grid-set}
 use Rattle.tileset.proofs.Says.{held-set}
 use Rattle.tileset.proofs.NumberLaws.{belongs-start, row-start, column-start, single-starts}
-use Rattle.tileset.proofs.WritingLaws.{block-at, block-length, native-cell, native-sprite, held-inside, corner-counted, cell-length, sprite-length, cell-set, sprite-set, cell-there, write-held, write-small}
+use Rattle.tileset.proofs.WritingLaws.{block-at, block-length, native-cell, native-tile, held-inside, corner-counted, cell-length, tile-length, cell-set, tiles-set, cell-there, write-held, write-small}
 
 -- n pixels, each below 2^d
 abbrev Small : ℕ → ℕ → List ℕ → Type 0
@@ -68,19 +68,19 @@ module _ (z : Set) (store : List ℕ) (space : ℕ) (done : writeSays z store sp
         ap (unpacked (z .mode) (z .depth) 8 8) bytes
         ∙ back (native-cell (held-set z (length store) held) other) (cellPixels z store c) (case (ltb (tileAt z c) (z .stored)) refl)
 
-  -- a written sprite, unpacked
-  pub sprite-back : z .mode ≡ pce-sprite → (i : ℕ) → i < z .stored
+  -- a written tile of a native size, unpacked
+  pub native-back : T (isNative (z .mode) (z .width) (z .height)) → (i : ℕ) → i < z .stored
       → unpacked (z .mode) (z .depth) (z .width) (z .height) (take (area z * z .depth / 8) (drop (i * (area z * z .depth / 8)) (setBytes z store)))
       ≡ take (area z) (drop (i * area z) store)
-  sprite-back is i lt =
+  native-back size i lt =
       let n = area z in
       let inside : i * n + n ≤ z .stored * n = item-inside n (z .stored) i lt in
       let fits : z .stored * n ≤ length store = held-inside z (length store) held in
       let len : length (take n (drop (i * n) store)) ≡ n = length-take-le n (drop (i * n) store) (omega (arith, length-drop (i * n) store)) in
-      let bytes = ap (λ (l : List ℕ). take (n * z .depth / 8) (drop (i * (n * z .depth / 8)) l)) (sym (sprite-set z store held is .0))
-      ∙ item-at (n * z .depth / 8) (spriteBytes z store) (sprite-length z (length store) held is store) (z .stored) i lt in
+      let bytes = ap (λ (l : List ℕ). take (n * z .depth / 8) (drop (i * (n * z .depth / 8)) l)) (sym (tiles-set z store held size))
+      ∙ item-at (n * z .depth / 8) (spriteBytes z store) (tile-length z store held size) (z .stored) i lt in
       ap (unpacked (z .mode) (z .depth) (z .width) (z .height)) bytes
-      ∙ back (native-sprite (held-set z (length store) held) is) (take n (drop (i * n) store))
+      ∙ back (native-tile z store held size) (take n (drop (i * n) store))
       (len, λ j l. rw (getD-take n (drop (i * n) store) j 0 l, getD-drop (i * n) store j 0) (small-at (i * n + j) (omega arith)))
 
 -- ---- every pixel of a stored tile is in a written cell

@@ -71,7 +71,6 @@ pub record HasBlock (store : List ℕ) (corner w : ℕ) (out : List ℕ) : Type 
 -- What reading the tiles asks, the cells of one tile up to its last, its rows, and one row.
 pub record ReadsAll (m d w h : ℕ) (bytes store : List ℕ) (count : ℕ) : Type 0 where
   pub sound : setSays m d w h ≡ 0
-  pub cells : m ≡ pce-sprite → ⊥
   pub few : count ≤ 65535
   pub is : count ≡ readCount m d w h (length bytes)
   pub space : count * (w * h) ≤ length store

@@ -9,24 +9,16 @@ use crate::sets::set_says;
 use mode::Mode;
 use words::refusal;
 ghost use mathlib.Core.Path.{_≡_};
+ghost use lib.Dec.{T};
 ghost use lib.Seq.{sets};
 ghost use Rattle.words.specs.Answers.{overwrite};
 ghost use Rattle.words.specs.Loops.{each};
 ghost use Rattle.mode.specs.Table.{pce-sprite};
+ghost use Rattle.tile.specs.Tile.{isNative};
 ghost use Rattle.tileset.specs.Sets.{setSays};
 ghost use Rattle.tileset.specs.Numbers.{Grid};
-ghost use Rattle.tileset.specs.Reading.{wholeTiles, readCount, readableSays, readSays, readPixels, Reads};
+ghost use Rattle.tileset.specs.Reading.{wholeTiles, unitBytes, readCount, readSays, readPixels, Reads};
 ghost use Rattle.tileset.specs.Inner.{ReadsAll, ReadsCells, ReadsRows, ReadsRow, cellsIn, rowOf};
-
-// Whether a mode's sets of such tiles can be read.
-fn readable_says(mode: u32, depth: u32, width: u32, height: u32) -> u32
-    ensures { λ r. ⌜ r ≡ readableSays mode depth width height ⌝ }
-{
-    if mode == Mode::PCE_SPRITE.0 {
-        return refusal::PCE_SPRITE;
-    }
-    set_says(mode, depth, width, height)
-}
 
 // How many tiles come before the first incomplete one of so many cells.
 fn whole_tiles(row: usize, across: usize, down: usize, cells: usize) -> usize
@@ -43,27 +35,40 @@ fn whole_tiles(row: usize, across: usize, down: usize, cells: usize) -> usize
     whole + (rest - above) / across
 }
 
+// What reading takes whole: the bytes of a sprite, or of a cell.
+fn unit_bytes(mode: u32, depth: u32, width: u32, height: u32) -> usize
+    requires { ⌜ setSays mode depth width height ≡ 0 ⌝ }
+    ensures { λ r. ⌜ r ≡ unitBytes mode depth width height ⌝ }
+{
+    if mode == Mode::PCE_SPRITE.0 {
+        return (width * height * depth / 8) as usize;
+    }
+    (depth * 8) as usize
+}
+
 // How many tiles so many bytes hold.
 fn read_count(mode: u32, depth: u32, width: u32, height: u32, len: usize) -> usize
-    requires { ⌜ (setSays mode depth width height ≡ 0) × (mode ≡ pce-sprite → ⊥) ⌝ }
+    requires { ⌜ setSays mode depth width height ≡ 0 ⌝ }
     ensures { λ r. ⌜ r ≡ readCount mode depth width height len ⌝ }
 {
+    let units = len / unit_bytes(mode, depth, width, height);
+    if mode == Mode::PCE_SPRITE.0 {
+        return units;
+    }
     let row = row_cells(mode) as usize;
     let across = (width / 8) as usize;
     let down = (height / 8) as usize;
-    let size = (depth * 8) as usize;
-    whole_tiles(row, across, down, len / size)
+    whole_tiles(row, across, down, units)
 }
 
 fn read_says(mode: u32, depth: u32, width: u32, height: u32, len: usize, space: usize) -> u32
     ensures { λ r. ⌜ r ≡ readSays mode depth width height len space ⌝ }
 {
-    let refusal = readable_says(mode, depth, width, height);
+    let refusal = set_says(mode, depth, width, height);
     if refusal != 0 {
         return refusal;
     }
-    let size = (depth * 8) as usize;
-    if len % size != 0 {
+    if len % unit_bytes(mode, depth, width, height) != 0 {
         return refusal::LENGTH;
     }
     let count = read_count(mode, depth, width, height, len);
@@ -130,7 +135,55 @@ fn put_rows(cells: &[u8], width: usize, height: usize, out: &mut [u8], at: usize
     }
 }
 
-// The tiles, one after the other.
+// Tiles in rows of cells, one after the other, out of their cells.
+fn put_cells(
+    mode: u32,
+    depth: u32,
+    width: u32,
+    height: u32,
+    bytes: &[u8],
+    count: u32,
+    store: &mut [u8],
+)
+    requires { ⌜ ReadsAll mode depth width height (now bytes) (now store) count × (mode ≡ pce-sprite → ⊥) ⌝ }
+    ensures { λ _. ⌜ now (store .exit) ≡ overwrite (now (store .entry)) (readPixels mode depth width height (now (bytes .entry))) ⌝ }
+{
+    let mut cells = [0u8; 4096];
+    let w = width as usize;
+    let h = height as usize;
+    let mut n: u32 = 0;
+    while n < count {
+        unpack_cells(mode, depth, width, height, bytes, Logical(n), &mut cells);
+        put_rows(&cells, w, h, store, (n as usize) * (w * h));
+        n += 1;
+    }
+}
+
+// Tiles of a native size, one after the other, straight into the store.
+fn put_tiles(
+    mode: u32,
+    depth: u32,
+    width: u32,
+    height: u32,
+    bytes: &[u8],
+    count: u32,
+    store: &mut [u8],
+)
+    requires { ⌜ ReadsAll mode depth width height (now bytes) (now store) count × T (isNative mode width height) ⌝ }
+    ensures { λ _. ⌜ now (store .exit) ≡ overwrite (now (store .entry)) (readPixels mode depth width height (now (bytes .entry))) ⌝ }
+{
+    let p = tile::packing_of(Mode(mode), depth, width, height);
+    let n = (width * height) as usize;
+    let size = tile::byte_count(p);
+    let mut i: u32 = 0;
+    while i < count {
+        let k = i as usize;
+        tile::put_pixels(p, bytes, k * size, store, k * n);
+        i += 1;
+    }
+}
+
+// The tiles read, at the front of the store.
 fn put_read(
     mode: u32,
     depth: u32,
@@ -143,15 +196,11 @@ fn put_read(
     requires { ⌜ ReadsAll mode depth width height (now bytes) (now store) count ⌝ }
     ensures { λ _. ⌜ now (store .exit) ≡ overwrite (now (store .entry)) (readPixels mode depth width height (now (bytes .entry))) ⌝ }
 {
-    let mut cells = [0u8; 4096];
-    let w = width as usize;
-    let h = height as usize;
-    let mut n: u32 = 0;
-    while n < count {
-        unpack_cells(mode, depth, width, height, bytes, Logical(n), &mut cells);
-        put_rows(&cells, w, h, store, (n as usize) * (w * h));
-        n += 1;
+    if tile::is_native(Mode(mode), width, height) {
+        put_tiles(mode, depth, width, height, bytes, count, store);
+        return;
     }
+    put_cells(mode, depth, width, height, bytes, count, store);
 }
 
 // Reads a set's tiles from bytes.

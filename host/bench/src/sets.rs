@@ -99,15 +99,14 @@ pub fn lines(random: &mut Random) -> impl Iterator<Item = Measured> {
     })
 }
 
-/// Writing a set's bytes and reading them back, for shapes whose tiles are packed in different ways. The Rust reads no
-/// sprites.
+/// Writing a set's bytes and reading them back, for shapes whose tiles are packed in different ways: native tiles, those
+/// that are laid out by cells, and sprites of the smallest and the largest size.
 pub fn byte_lines(random: &mut Random) -> impl Iterator<Item = Measured> {
-    let shapes = [(0, 4, 8), (4, 8, 8), (2, 2, 8), (10, 4, 16)];
-    let shapes = shapes.map(|(mode, depth, side)| Shape { mode, depth, width: side, height: side });
+    let shapes = [(0, 4, 8, 8), (4, 8, 8, 8), (2, 2, 8, 8), (0, 4, 16, 16), (10, 4, 16, 16), (10, 4, 32, 64)];
+    let shapes = shapes.map(|(mode, depth, width, height)| Shape { mode, depth, width, height });
     shapes.into_iter().flat_map(|shape| {
         let tiles: Vec<_> = (0..TILES).map(|_| random.pixels(shape.depth, shape.pixels())).collect();
-        let read = (shape.width == 8).then(|| read_bytes(shape, random));
-        std::iter::once(write_bytes(shape, &tiles)).chain(read)
+        [write_bytes(shape, &tiles), read_bytes(shape, random)]
     })
 }
 
@@ -144,7 +143,6 @@ fn write_bytes(shape: Shape, tiles: &[Vec<u8>]) -> Measured {
 /// Reads the bytes of 1,024 tiles.
 fn read_bytes(shape: Shape, random: &mut Random) -> Measured {
     let Shape { mode, depth, width, height } = shape;
-    let rust = plain::mode(mode);
     let bytes = random.bytes(TILES * shape.bytes());
     let mut store = vec![0; TILES * shape.pixels()];
     measured(
@@ -155,11 +153,21 @@ fn read_bytes(shape: Shape, random: &mut Random) -> Measured {
             let read = Set::read(mode, depth, width, height, false, black_box(&bytes), black_box(&mut store));
             assert_eq!(read.expect("the bytes are a set's").stored as usize, TILES);
         },
-        || {
-            let read = plain::from_native_data(rust, depth, width, height, false, black_box(&bytes));
-            black_box(read.expect("the bytes are a set's"));
-        },
+        || rust_reads(shape, black_box(&bytes)),
     )
+}
+
+/// The Rust's reading of a set. It reads none of sprites: there it makes the tiles, each as it does of 8x8, and no set.
+fn rust_reads(shape: Shape, bytes: &[u8]) {
+    let Shape { mode, depth, width, height } = shape;
+    let rust = plain::mode(mode);
+    if MODES[mode as usize].name == "pce_sprite" {
+        let tiles = plain::tiles_from_native(rust, depth, width, height, false, bytes);
+        assert_eq!(black_box(tiles.expect("the bytes are tiles")).len(), TILES);
+    } else {
+        let read = plain::from_native_data(rust, depth, width, height, false, bytes);
+        black_box(read.expect("the bytes are a set's"));
+    }
 }
 
 /// Mode, depth, size and kind.

@@ -229,21 +229,23 @@ fn unpacked(shape: Shape, bytes: &[u8]) -> Vec<u8> {
     pixels
 }
 
-/// Refusals 1, 2, 3, 4, 7, 11, 12. "Reading takes whole cells (else 7), stops at the first incomplete tile and does not
-/// discard."
+/// What a set's bytes are read by: "whole cells", but in pce_sprite "tile by tile, with no padding".
+fn read_by(row: &Row, shape: Shape) -> Shape {
+    if row.name == "pce_sprite" { shape } else { cell_of(shape) }
+}
+
+/// Refusals 1, 3, 4, 7, 11, 12. "Reading takes whole cells (else 7), stops at the first incomplete tile and does not
+/// discard." Of pce_sprite "a length that is not whole tiles is 7".
 pub fn set_read(shape: Shape, flips: bool, bytes: &[u8], store: &mut [u8]) -> Answer<Set> {
-    if row(shape.mode)?.name == "pce_sprite" {
-        return Err(2);
-    }
     let row = set_row(shape)?;
-    let cell = cell_of(shape);
-    if !bytes.len().is_multiple_of(cell.bytes()) {
+    let part = read_by(row, shape);
+    if !bytes.len().is_multiple_of(part.bytes()) {
         return Err(7);
     }
-    let cells: Vec<Vec<u8>> = bytes.chunks_exact(cell.bytes()).map(|bytes| unpacked(cell, bytes)).collect();
+    let parts: Vec<Vec<u8>> = bytes.chunks_exact(part.bytes()).map(|bytes| unpacked(part, bytes)).collect();
     let tiles: Vec<Vec<u8>> = match is_native(row, shape) {
-        true => cells,
-        false => (0..).map_while(|tile| taken(row, shape, &cells, tile)).collect(),
+        true => parts,
+        false => (0..).map_while(|tile| taken(row, shape, &parts, tile)).collect(),
     };
     let pixels = tiles.concat();
     if store.len() < pixels.len() {

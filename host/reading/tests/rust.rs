@@ -169,20 +169,66 @@ fn same_run(shape: Shape, flips: bool, discarding: bool, random: &mut Random) {
 
 /// Written alike, and read alike but at depth 1, where the Rust panics.
 fn same_written(set: Set, store: &[u8], theirs: &plain::Tileset) {
-    let Shape { mode, depth, width, height } = set.shape;
     let bytes = plain::to_native_data(theirs).unwrap();
     let mut out = vec![0; bytes.len()];
     assert_eq!(reading::set_write(set, store, &mut out), Ok(bytes.len()), "{set:?}");
     assert!(out == bytes, "{set:?}");
-    if depth == 1 || MODES[mode as usize].name == "pce_sprite" {
+    if set.shape.depth > 1 {
+        same_read(set.shape, set.flips, &bytes);
+    }
+}
+
+fn is_sprite(shape: Shape) -> bool {
+    MODES[shape.mode as usize].name == "pce_sprite"
+}
+
+/// What the Rust reads: the pixels, and the bytes that it writes of them again. Sets of sprites it does not read: there
+/// it unpacks and packs each tile.
+fn rust_reads(shape: Shape, flips: bool, bytes: &[u8]) -> (Vec<u8>, Vec<u8>) {
+    let Shape { mode, depth, width, height } = shape;
+    let rust = plain::mode(mode);
+    let read = plain::from_native_data(rust, depth, width, height, flips, bytes);
+    if !is_sprite(shape) {
+        let set = read.unwrap();
+        assert_eq!(plain::counts(&set).1, 0);
+        return (plain::tile_pixels(&set), plain::to_native_data(&set).unwrap());
+    }
+    assert!(read.is_err());
+    let unpack = |tile| plain::unpack_tile(rust, depth, width, height, tile).unwrap();
+    let tiles: Vec<Vec<u8>> = bytes.chunks_exact(shape.bytes()).map(unpack).collect();
+    let pack = |tile: &Vec<u8>| plain::pack_tile(rust, depth, width, height, tile).unwrap();
+    (tiles.concat(), tiles.iter().flat_map(pack).collect())
+}
+
+/// Read alike, and written alike again.
+fn same_read(shape: Shape, flips: bool, bytes: &[u8]) {
+    let (pixels, again) = rust_reads(shape, flips, bytes);
+    let mut store = vec![0; pixels.len()];
+    let read = reading::set_read(shape, flips, bytes, &mut store).unwrap();
+    assert_eq!((read.stored as usize * shape.pixels(), read.discarded), (pixels.len(), 0), "{read:?}");
+    assert!(store == pixels, "{read:?}");
+    let mut out = vec![0; again.len()];
+    assert_eq!(reading::set_write(read, &store, &mut out), Ok(again.len()), "{read:?}");
+    assert!(out == again, "{read:?}");
+}
+
+/// Every number of cells, up to two rows of tiles and a cell; of sprites every number of tiles up to three.
+#[test]
+fn read_sets() {
+    if absent() {
         return;
     }
-    let back = plain::from_native_data(plain::mode(mode), depth, width, height, set.flips, &bytes).unwrap();
-    let pixels = plain::tile_pixels(&back);
-    let mut store = vec![0; pixels.len()];
-    let read = reading::set_read(set.shape, set.flips, &bytes, &mut store).unwrap();
-    assert_eq!((read.stored, read.discarded), plain::counts(&back), "{set:?}");
-    assert!(store == pixels, "{set:?}");
+    let mut random = Random::new(5);
+    for shape in set_shapes().filter(|shape| shape.depth > 1) {
+        let cells_a_row = if shape.mode == 0 { 16 } else { 1 };
+        let (part, most) = match is_sprite(shape) {
+            true => (shape.bytes(), 3),
+            false => (8 * shape.depth as usize, 2 * shape.height / 8 * cells_a_row + 1),
+        };
+        for parts in 0..=most as usize {
+            same_read(shape, random.flag(), &random.bytes(parts * part));
+        }
+    }
 }
 
 #[test]
@@ -246,7 +292,7 @@ fn tile_numbers() {
     if absent() {
         return;
     }
-    for shape in set_shapes().filter(|shape| MODES[shape.mode as usize].name != "pce_sprite") {
+    for shape in set_shapes().filter(|&shape| !is_sprite(shape)) {
         let Shape { mode, width, height, .. } = shape;
         for number in (0..1000).chain(64_000..=65_535) {
             let native = plain::native_tile_index(plain::mode(mode), width, height, number);

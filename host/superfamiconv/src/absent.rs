@@ -13,6 +13,9 @@ pub struct Color;
 #[derive(Clone, Copy)]
 pub struct Entry;
 
+/// The Rust's tile.
+pub struct Tile;
+
 /// The Rust's tile set.
 pub struct Tileset;
 
@@ -147,6 +150,17 @@ pub fn from_native_data(
     _flips: bool,
     _bytes: &[u8],
 ) -> Result<Tileset, String> {
+    absent()
+}
+
+pub fn tiles_from_native(
+    _mode: Mode,
+    _depth: u32,
+    _width: u32,
+    _height: u32,
+    _flips: bool,
+    _bytes: &[u8],
+) -> Result<Vec<Tile>, String> {
     absent()
 }
 

@@ -8,7 +8,6 @@ use crate::mode::color::{ColorRounding, ModeColor};
 use crate::mode::map::ModeMap;
 use crate::mode::tile::ModeTile;
 use crate::quant::Method;
-use crate::tile::Tile;
 use crate::tileset;
 
 /// The Rust's mode.
@@ -19,6 +18,9 @@ pub type Color = crate::color::ReducedColor;
 
 /// The Rust's map entry.
 pub type Entry = crate::map::Mapentry;
+
+/// The Rust's tile.
+pub type Tile = crate::tile::Tile;
 
 /// The Rust's tile set.
 pub type Tileset = tileset::Tileset;
@@ -212,6 +214,20 @@ pub fn from_native_data(
     bytes: &[u8],
 ) -> Result<Tileset, String> {
     Tileset::from_native_data(bytes, mode, depth, width, height, !flips)
+}
+
+/// `Tile::from_native` for each tile of these bytes, as `Tileset::from_native_data` reads tiles of 8x8. It reads no
+/// sprites.
+pub fn tiles_from_native(
+    mode: Mode,
+    depth: u32,
+    width: u32,
+    height: u32,
+    flips: bool,
+    bytes: &[u8],
+) -> Result<Vec<Tile>, String> {
+    let tiles = bytes.chunks_exact((width * height * depth / 8) as usize);
+    tiles.map(|tile| Tile::from_native(tile, mode, depth, !flips, width, height)).collect()
 }
 
 /// `native_tile_index`.

@@ -1,6 +1,6 @@
 //! Sets, and tiles that nearly match.
 
-use reading::{Random, Shape};
+use reading::{MODES, Random, Shape};
 use rumchivoat::{Place, Set};
 
 use super::told;
@@ -15,6 +15,31 @@ pub fn new_set(shape: Shape, flips: bool, discarding: bool, limit: u32) -> Resul
 pub fn read_set(shape: Shape, flips: bool, bytes: &[u8], store: &mut [u8]) -> Result<Set, u32> {
     let Shape { mode, depth, width, height } = shape;
     told(Set::read(mode, depth, width, height, flips, bytes, store))
+}
+
+/// Whether the tiles are pce_sprite's.
+pub fn is_sprite(shape: Shape) -> bool {
+    MODES[shape.mode as usize].name == "pce_sprite"
+}
+
+/// The tiles of a row of them in a set's bytes: at 8x8 and in pce_sprite one, else T = R/H, where "R = 16 cells a row for
+/// snes and 1 for others".
+pub fn tiles_a_row(shape: Shape) -> usize {
+    let cells = if MODES[shape.mode as usize].name == "snes" { 16 } else { 1 };
+    let native = is_sprite(shape) || (shape.width, shape.height) == (8, 8);
+    if native { 1 } else { 8 * cells / shape.width as usize }
+}
+
+/// The bytes of what a set is read by: "whole cells", and of pce_sprite whole tiles.
+pub fn part_bytes(shape: Shape) -> usize {
+    if is_sprite(shape) { shape.bytes() } else { 8 * shape.depth as usize }
+}
+
+/// Every whole number of cells, or of sprites: up to three rows of tiles and one more, and to 49 at least.
+pub fn whole_lengths(shape: Shape) -> impl Iterator<Item = usize> {
+    let part = part_bytes(shape);
+    let rows = 3 * tiles_a_row(shape) * shape.bytes() / part;
+    (0..=rows.max(48) + 1).map(move |parts| parts * part)
 }
 
 /// A place's number and flips.

@@ -4,7 +4,9 @@ use reading::{MODES, Random, Shape, set_shapes, set_sizes};
 use rumchivoat::{Logical, Mode, Native, Refusal, Set};
 use superfamiconv::plain;
 
-use super::common::sets::{SETTINGS, near_tiles, new_set, place_fields, read_set};
+use super::common::sets::{
+    SETTINGS, is_sprite, near_tiles, new_set, part_bytes, place_fields, read_set, whole_lengths,
+};
 use super::common::{told, writes};
 use super::tiles::quietly;
 
@@ -59,6 +61,14 @@ impl Sides {
     fn writes_alike(&self, random: &mut Random) -> u64 {
         let bytes = plain::to_native_data(&self.rust).expect("the Rust writes a set");
         writes(|| format!("write {:?}", self.port), &bytes, random, |out| told(self.port.write(&self.store, out)))
+    }
+
+    /// What the Rust writes of the set is read as the tiles that it has.
+    fn is_read_back(&self, bytes: &[u8]) -> u64 {
+        let mut store = vec![0; 8 * bytes.len()];
+        let read = read_set(self.shape, true, bytes, &mut store).expect("the bytes are a set's");
+        assert!(store.starts_with(&plain::tile_pixels(&self.rust)), "{read:?} of {:?}", self.port);
+        1
     }
 
     /// Adds each tile, looked up before and after it, and writes the set.
@@ -158,32 +168,46 @@ pub fn sets_of_every_count() -> u64 {
                 count += sides.adds_alike(&random.pixels(8, shape.pixels()));
             }
             count += sides.writes_alike(&mut random);
-            if name(shape) != "pce_sprite" {
-                let bytes = plain::to_native_data(&sides.rust).expect("the Rust writes a set");
-                count += reads_alike(shape, random.flag(), &bytes, &mut random);
-            }
+            let bytes = plain::to_native_data(&sides.rust).expect("the Rust writes a set");
+            count += sides.is_read_back(&bytes) + reads_alike(shape, random.flag(), &bytes, &mut random);
         }
     }
     count
 }
 
-fn name(shape: Shape) -> &'static str {
-    MODES[shape.mode as usize].name
+/// The Rust's set of these tiles, all of them stored.
+fn rust_set(shape: Shape, flips: bool, pixels: &[u8]) -> plain::Tileset {
+    let Shape { mode, depth, width, height } = shape;
+    let mut set = plain::tileset(plain::mode(mode), depth, width, height, flips, false, 0);
+    for tile in pixels.chunks_exact(shape.pixels()) {
+        plain::add(&mut set, &plain::image(width, height, tile)).expect("the image has pixels");
+    }
+    set
 }
 
-/// The set that the Rust reads; at depth 1, where it panics, the set that it reads of the same cells at depth 2.
+/// The set that the Rust reads. Where it does not, the set of the same tiles: sprites it unpacks one by one, and cells of
+/// depth 1, on which it panics, it reads at depth 2.
 fn rust_reads(shape: Shape, flips: bool, bytes: &[u8]) -> plain::Tileset {
     let Shape { mode, depth, width, height } = shape;
-    let mode = plain::mode(mode);
+    let rust = plain::mode(mode);
+    let read = |depth, bytes: &[u8]| plain::from_native_data(rust, depth, width, height, flips, bytes);
+    if is_sprite(shape) {
+        assert!(read(depth, bytes).is_err(), "{shape:?} {} bytes", bytes.len());
+        let unpack = |tile| plain::unpack_tile(rust, depth, width, height, tile).expect("the bytes are a sprite's");
+        let pixels: Vec<u8> = bytes.chunks_exact(shape.bytes()).flat_map(unpack).collect();
+        return rust_set(shape, flips, &pixels);
+    }
     if depth > 1 {
-        return plain::from_native_data(mode, depth, width, height, flips, bytes).expect("the bytes are whole cells");
+        return read(depth, bytes).expect("the bytes are whole cells");
     }
     // a second plane of 0: two bytes a row, and the same pixels
     let two_planes: Vec<u8> = bytes.iter().flat_map(|&row| [row, 0]).collect();
-    plain::from_native_data(mode, 2, width, height, flips, &two_planes).expect("the bytes are whole cells")
+    let set = read(2, &two_planes).expect("the bytes are whole cells");
+    rust_set(shape, flips, &plain::tile_pixels(&set))
 }
 
-/// Read alike into stores of noise that are one byte short, exact, and one byte long; and looked up alike then.
+/// Read alike into stores of noise that are one byte short, exact, and one byte long; looked up alike then, and written
+/// again alike.
 fn reads_alike(shape: Shape, flips: bool, bytes: &[u8], random: &mut Random) -> u64 {
     let rust = rust_reads(shape, flips, bytes);
     let pixels = plain::tile_pixels(&rust);
@@ -194,13 +218,16 @@ fn reads_alike(shape: Shape, flips: bool, bytes: &[u8], random: &mut Random) -> 
         assert_eq!((set.flips, set.discarding, set.limit), (flips, true, 0), "{}", case());
         Ok(set.stored as usize * shape.pixels())
     });
-    count + finds_alike(shape, &rust, flips, &pixels, random)
+    let (stored, _) = plain::counts(&rust);
+    let port = Set { stored, ..new_set(shape, flips, true, 0).expect("the settings are a set's") };
+    let again = plain::to_native_data(&rust).expect("the Rust writes a set");
+    count
+        + finds_alike(shape, &rust, port, &pixels, random)
+        + writes(|| format!("{} and write", case()), &again, random, |out| told(port.write(&pixels, out)))
 }
 
 /// Looks up, in a set that was read, tiles that it has, mirrored.
-fn finds_alike(shape: Shape, rust: &plain::Tileset, flips: bool, store: &[u8], random: &mut Random) -> u64 {
-    let (stored, _) = plain::counts(rust);
-    let port = Set { stored, ..new_set(shape, flips, true, 0).expect("the settings are a set's") };
+fn finds_alike(shape: Shape, rust: &plain::Tileset, port: Set, store: &[u8], random: &mut Random) -> u64 {
     let tiles = store.chunks_exact(shape.pixels()).take(4);
     tiles
         .map(|tile| {
@@ -213,37 +240,32 @@ fn finds_alike(shape: Shape, rust: &plain::Tileset, flips: bool, store: &[u8], r
         .sum()
 }
 
-/// Reading of every number of cells, up to three rows of tiles and a cell.
+/// Reading of every number of cells, or of sprites, up to three rows of tiles and one more.
 pub fn sets_of_every_number_of_cells() -> u64 {
     let (mut count, mut random) = (0, Random::new(45));
-    for shape in set_shapes().filter(|&shape| name(shape) != "pce_sprite") {
-        let row = if name(shape) == "snes" { 16 } else { 1 };
-        let most = (3 * shape.height / 8 * row + 1) as usize;
-        for cells in 0..=most {
-            let bytes = random.bytes(8 * shape.depth as usize * cells);
+    for shape in set_shapes() {
+        for length in whole_lengths(shape) {
+            let bytes = random.bytes(length);
             count += reads_alike(shape, random.flag(), &bytes, &mut random);
         }
     }
     count
 }
 
-/// Bytes that are not whole cells are the Rust's `Err` and the port's 7; pce_sprite is `Err` and 2.
+/// Bytes that are not whole cells, or not whole sprites, are the Rust's `Err` and the port's 7.
 pub fn sets_of_every_length() -> u64 {
     let (mut count, mut random) = (0, Random::new(46));
     for shape in set_shapes() {
         let Shape { mode, depth, width, height } = shape;
-        for length in (1..=80).chain([127, 129, 255, 257]) {
-            let refusal = match name(shape) {
-                "pce_sprite" => Refusal::PceSprite,
-                _ if length % (8 * depth as usize) != 0 => Refusal::Length,
-                _ => continue,
-            };
+        let (part, tile) = (part_bytes(shape), shape.bytes());
+        let lengths = (1..=80).chain([127, 129, 255, 257, tile - 1, tile + 1, 2 * tile - 1, 2 * tile + 1]);
+        for length in lengths.filter(|length| length % part != 0) {
             let bytes = random.bytes(length);
             let theirs = plain::from_native_data(plain::mode(mode), depth, width, height, true, &bytes);
             assert!(theirs.is_err(), "{shape:?} {length}");
             count += super::refuses(
                 || format!("read {shape:?} {length}"),
-                refusal,
+                Refusal::Length,
                 &mut random,
                 |store| read_set(shape, true, &bytes, store).map(|_| 0),
             );
@@ -340,12 +362,14 @@ enum Call {
 
 use Call::{Add, AddAfter, New, Read, ReadMany};
 
-/// Where both answer, and differently: the Rust panics in unpacking at depth 1.
+/// Where both answer, and differently: the Rust panics in unpacking at depth 1, and reads no sprites.
 #[rustfmt::skip]
-const DIFFERENCES_INSIDE: [(Mode, Call, &str, &str); 3] = [
-    (Mode::Gb,  Read(1, 8, 8, &[0; 8]),   "panic", "1 and 0: 64 x 00"),
-    (Mode::Gbc, Read(1, 8, 8, &[0; 8]),   "panic", "1 and 0: 64 x 00"),
-    (Mode::Gb,  Read(1, 8, 16, &[0; 8]),  "panic", "0 and 0: nothing"),
+const DIFFERENCES_INSIDE: [(Mode, Call, &str, &str); 5] = [
+    (Mode::Gb,        Read(1, 8, 8, &[0; 8]),       "panic", "1 and 0: 64 x 00"),
+    (Mode::Gbc,       Read(1, 8, 8, &[0; 8]),       "panic", "1 and 0: 64 x 00"),
+    (Mode::Gb,        Read(1, 8, 16, &[0; 8]),      "panic", "0 and 0: nothing"),
+    (Mode::PceSprite, Read(4, 16, 16, &[]),         "Err",   "0 and 0: nothing"),
+    (Mode::PceSprite, Read(4, 16, 16, &[0; 128]),   "Err",   "1 and 0: 256 x 00"),
 ];
 
 /// Where document 01 refuses and the Rust answers or panics: the smallest input of each kind. A set's text is how many

@@ -1,10 +1,12 @@
 //! Sets against document 01.
 
-use reading::{MODES, Random, Shape, set_shapes, set_sizes};
+use reading::{Random, Shape, set_shapes, set_sizes};
 use rumchivoat::{Logical, Mode, Native, Place, Refusal, Set};
 
-use super::common::sets::{SETTINGS, near_tiles, new_set, place_fields, read_set};
-use super::common::{assert_writes, on_noise, rooms, told};
+use super::common::sets::{
+    SETTINGS, is_sprite, near_tiles, new_set, part_bytes, place_fields, read_set, tiles_a_row, whole_lengths,
+};
+use super::common::{assert_writes, on_noise, rooms, told, unpack_tile, writes};
 use super::tiles::{DEPTHS, SIDES, choices};
 use super::{MODE_NUMBERS, print_count};
 
@@ -183,12 +185,13 @@ fn same_run(set: &mut Set, store: &mut [u8], tiles: &[Vec<u8>]) -> u64 {
 #[test]
 fn adds_after_reading() {
     let (mut count, mut random) = (0, Random::new(58));
-    for shape in set_shapes().filter(|shape| MODES[shape.mode as usize].name != "pce_sprite") {
-        let row = if shape.mode == 0 { 16 } else { 1 };
+    for shape in set_shapes() {
         for flips in [false, true] {
-            let bytes = random.bytes((row * shape.height * shape.depth) as usize);
+            // whole rows of tiles, however many a row has
+            let bytes = random.bytes(16 * shape.bytes());
             let mut store = random.bytes(24 * shape.pixels());
             let mut set = read_set(shape, flips, &bytes, &mut store).unwrap();
+            assert_eq!(set.stored, 16);
             let first = store[..shape.pixels()].to_vec();
             let mut tiles = near_tiles(shape, 12, &mut random);
             tiles.extend([reading::flipped(&first, shape.width, true, true), first]);
@@ -352,35 +355,29 @@ fn the_lowest_refusal_of_writing() {
 #[test]
 fn the_lowest_refusal_of_reading() {
     for shape in set_shapes() {
-        let sprite = MODES[shape.mode as usize].name == "pce_sprite";
-        let row = if shape.mode == 0 { 16 } else { 1 };
-        let bytes = (row * shape.height * shape.depth) as usize;
+        let tiles = tiles_a_row(shape);
         for refusals in choices(&[1, 3, 4, 7, 11]) {
             let set = damaged(new_set(shape, true, true, 0).unwrap(), &refusals);
-            let length = bytes + usize::from(refusals.contains(&7));
-            let tiles = (8 * row / shape.width).max(1);
-            let room = tiles as usize * shape.pixels() - usize::from(refusals.contains(&11));
+            let length = tiles * shape.bytes() + usize::from(refusals.contains(&7));
+            let room = tiles * shape.pixels() - usize::from(refusals.contains(&11));
             let answer = read_set(shape_of(set), false, &vec![0; length], &mut vec![0; room]);
-            let expected = match (refusals.first(), sprite) {
-                (Some(1), _) => Err(1),
-                (_, true) => Err(2),
-                (first, _) => first.map_or(Ok(tiles), |&lowest| Err(lowest)),
-            };
+            let expected = refusals.first().map_or(Ok(tiles as u32), |&lowest| Err(lowest));
             assert_eq!(answer.map(|set| set.stored), expected, "{shape:?} {refusals:?}");
         }
     }
 }
 
-/// Every number of cells up to three rows of tiles; beside the first of them, lengths that are no whole cells.
+/// Every number of cells up to three rows of tiles, of sprites too, which are read whole; and lengths a byte beside whole
+/// cells, tiles and rows of them.
 #[test]
 fn sets_of_every_number_of_cells() {
     let (mut count, mut random) = (0, Random::new(56));
     for shape in set_shapes() {
-        let row = if shape.mode == 0 { 16 } else { 1 };
-        let cell = 8 * shape.depth as usize;
-        let whole = (0..=(3 * shape.height / 8 * row + 1) as usize).map(|cells| cells * cell);
-        let beside = [1, cell - 1, cell + 1, 2 * cell - 1, 2 * cell + 1];
-        for length in whole.chain(beside) {
+        let (cell, tile) = (8 * shape.depth as usize, shape.bytes());
+        let row = tiles_a_row(shape) * tile;
+        let whole = (0..=(3 * row / cell).max(48) + 1).map(|cells| cells * cell);
+        let beside = [cell, 2 * cell, tile, 2 * tile, row, 2 * row].map(|length| [length - 1, length + 1]);
+        for length in whole.chain([1]).chain(beside.into_iter().flatten()) {
             let bytes = random.bytes(length);
             let needed = reading::set_read(shape, true, &bytes, &mut vec![0; 64 * length]);
             let needed = needed.map_or(0, |set| set.stored as usize * shape.pixels());
@@ -392,11 +389,12 @@ fn sets_of_every_number_of_cells() {
     print_count("sets of every number of cells", count);
 }
 
-/// What is written is read again, with blank tiles after it up to the end of a row.
+/// What is written is read again, with blank tiles after it up to the end of a row: at 8x8 and in pce_sprite, where a row
+/// is one tile, with none.
 #[test]
 fn written_sets_are_read_again() {
     let mut random = Random::new(57);
-    for shape in set_shapes().filter(|shape| MODES[shape.mode as usize].name != "pce_sprite") {
+    for shape in set_shapes() {
         for tiles in [0, 1, 7, 8, 9, 15, 16, 17] {
             let store = random.pixels(shape.depth, tiles * shape.pixels());
             let set = Set { stored: tiles as u32, ..new_set(shape, true, true, 0).unwrap() };
@@ -404,14 +402,52 @@ fn written_sets_are_read_again() {
             let length = set.write(&store, &mut bytes).unwrap();
             let mut back = vec![0xa5; store.len() + 16 * shape.pixels()];
             let read = read_set(shape, true, &bytes[..length], &mut back).unwrap();
-            assert!(read.stored >= set.stored && read.stored < set.stored + 16, "{set:?} {read:?}");
-            assert_eq!(read, Set { stored: read.stored, ..set });
+            assert_eq!(read, Set { stored: tiles.next_multiple_of(tiles_a_row(shape)) as u32, ..set });
             let (written, rest) = back.split_at(store.len());
             let (blank, noise) = rest.split_at((read.stored - set.stored) as usize * shape.pixels());
             assert!(written == store && blank.iter().all(|&pixel| pixel == 0));
             assert!(noise.iter().all(|&byte| byte == 0xa5));
         }
     }
+}
+
+/// The tile to which a cell of a set's bytes belongs, by its number; a sprite is a tile by itself.
+fn tile_of(shape: Shape, part: u32) -> u32 {
+    let Shape { mode, width, height, .. } = shape;
+    if is_sprite(shape) { part } else { reading::logical_number(mode, width, height, part).unwrap() }
+}
+
+/// What is written of a set of which so many tiles were read: whole rows of tiles, each cell of a tile that was read
+/// where it stood in the bytes, and all others blank.
+fn written_again(shape: Shape, bytes: &[u8], stored: u32) -> Vec<u8> {
+    let mut again = vec![0; (stored as usize).next_multiple_of(tiles_a_row(shape)) * shape.bytes()];
+    let part = part_bytes(shape);
+    for ((number, cell), place) in (0..).zip(bytes.chunks_exact(part)).zip(again.chunks_exact_mut(part)) {
+        if tile_of(shape, number) < stored {
+            place.copy_from_slice(cell);
+        }
+    }
+    again
+}
+
+/// What is read is written again: the same bytes exactly where they are whole rows of tiles, which at 8x8 and in
+/// pce_sprite they always are.
+#[test]
+fn read_sets_are_written_again() {
+    let (mut count, mut random) = (0, Random::new(59));
+    for shape in set_shapes() {
+        let row = tiles_a_row(shape) * shape.bytes();
+        for length in whole_lengths(shape) {
+            let bytes = random.bytes(length);
+            let mut store = random.bytes(8 * length);
+            let set = read_set(shape, random.flag(), &bytes, &mut store).unwrap();
+            let again = written_again(shape, &bytes, set.stored);
+            assert_eq!(again == bytes, length % row == 0, "{set:?} of {length} bytes");
+            let case = || format!("write again {set:?} of {length} bytes");
+            count += writes(case, &again, &mut random, |out| told(set.write(&store, out)));
+        }
+    }
+    print_count("read sets are written again", count);
 }
 
 /// "The least of 65,535, the store's whole tiles ..": the last tile there is, in stores that have room for more.
@@ -443,6 +479,51 @@ fn the_most_tiles() {
     assert_eq!(read, Set { discarding: true, ..set });
     assert!(store[..65_535 * 64].iter().all(|&pixel| pixel == 1));
     assert_eq!(store[65_535 * 64..], [0; 128]);
+}
+
+/// More sprites than a set has, a length and stores a byte short: each is refused, and the store stays as it was.
+fn refuses_sprites(shape: Shape, bytes: &[u8], store: &mut [u8]) {
+    store.fill(0xa5);
+    assert_eq!(read_set(shape, true, bytes, store), Err(12));
+    assert_eq!(read_set(shape, true, bytes, &mut store[1..]), Err(11));
+    assert_eq!(read_set(shape, true, &bytes[1..], store), Err(7));
+    let most = &bytes[shape.bytes()..];
+    assert_eq!(read_set(shape, true, most, &mut store[shape.pixels() + 1..]), Err(11));
+    assert!(store.iter().all(|&pixel| pixel == 0xa5), "{shape:?}");
+}
+
+/// So many sprites are read, the last of them where it should be, and written again; what comes after them stays.
+fn reads_sprites(shape: Shape, tiles: usize, bytes: &[u8], store: &mut [u8], out: &mut [u8]) {
+    let bytes = &bytes[..tiles * shape.bytes()];
+    store.fill(0xa5);
+    let set = read_set(shape, true, bytes, store).unwrap();
+    assert_eq!(set, Set { stored: tiles as u32, ..new_set(shape, true, true, 0).unwrap() });
+    let (read, noise) = store.split_at(tiles * shape.pixels());
+    if let (Some(last), Some(packed)) = (read.rchunks(shape.pixels()).next(), bytes.rchunks(shape.bytes()).next()) {
+        let mut pixels = vec![0; shape.pixels()];
+        assert_eq!(unpack_tile(shape, packed, &mut pixels), Ok(pixels.len()));
+        assert!(last == pixels, "the last tile of {set:?}");
+    }
+    assert!(noise.iter().all(|&pixel| pixel == 0xa5), "the store after {set:?}");
+    out.fill(0xa5);
+    assert_eq!(set.write(store, out), Ok(bytes.len()));
+    let (written, noise) = out.split_at(bytes.len());
+    assert!(written == bytes && noise.iter().all(|&byte| byte == 0xa5), "{set:?}");
+}
+
+/// Sprites "for every whole number of tiles up to 65,535", at each of the six sizes: none, one and the most.
+#[test]
+fn the_most_sprites() {
+    // as many bytes as 65,536 of the largest have
+    let any = Random::new(60).bytes(65_536 * 1024);
+    for shape in set_shapes().filter(|&shape| is_sprite(shape)) {
+        let bytes = &any[..65_536 * shape.bytes()];
+        let (mut store, mut out) = (vec![0; 65_536 * shape.pixels()], vec![0; bytes.len()]);
+        refuses_sprites(shape, bytes, &mut store);
+        for tiles in [0, 1, 65_535] {
+            reads_sprites(shape, tiles, bytes, &mut store, &mut out);
+        }
+    }
 }
 
 /// The most tiles of the largest size: 268 million pixels, no number of bits too few for them.

@@ -1,134 +1,38 @@
--- The tiles before n are put.
-use mathlib.Core.Path.{_≡_, refl, ap, _∙_}
-use mathlib.Core.List.{List, []}
-use Prim.Native.Nat.{ℕ, _+_, _-_, _*_, _≤_}
-use native.Mathlib.Omega.{arith}
-use lib.ListN.{length}
-use lib.Seq.{sets}
-use denote.Ref.{now}
+-- Tiles of a native size straight from the bytes, the others out of their cells.
+use mathlib.Core.Path.{sym, _∙_, subst}
+use lib.Dec.{T}
 use borrow.Author.Needs.{needs}
-use Rattle.words.specs.Answers.{overwrite}
-use Rattle.words.proofs.Filling.{Filled, filled-none, filled-front, filled-next}
-use Rattle.tile.proofs.Native.{Native}
-use Rattle.tileset.specs.Reading.{tileIn, readCount, readPixels}
-use Rattle.tileset.specs.Inner.{cellsIn}
-use Rattle.tileset.proofs.Sizes.{IsSet, set-of}
-use Rattle.tileset.proofs.WritingLaws.{item-space, native-cell}
-use Rattle.tileset.proofs.ReadingLaws.{tile-inside, tile-length, cells-long, rows-are}
+use Rattle.tileset.proofs.Sizes.{set-of}
+use Rattle.tileset.proofs.WritingLaws.{in-cells}
 use Rattle.tileset.proofs.reading.put_read.Statement.{statement}
 use Rattle.tileset.proofs.reading.put_read.Tie as tie
 
-abbrev Inv-loop : tie.InvT-loop
-Inv-loop mode depth width height bytes count store₀ cells₀ w h n₀ store cells n =
-    (n ≤ count) × ((length cells ≡ 4096) × Filled (tileIn mode depth width height bytes) store₀ 0 n store)
-
-abbrev μ-loop : tie.MeasureT-loop
-μ-loop mode depth width height bytes count store₀ cells₀ w h n₀ store cells n = count - n
-
-module _ (c : tie.Start Inv-loop μ-loop) where
-  abbrev bytes : List ℕ
-  bytes = now (c .args .bytes)
-
-  sound : IsSet (c .args .mode) (c .args .depth) (c .args .width) (c .args .height)
-  sound = set-of _ _ _ _ (c .pre .sound)
-
-  cell-native : Native (c .args .mode) (c .args .depth) 8 8
-  cell-native = native-cell sound (c .pre .cells)
-
-module _ (c : tie.In-loop Inv-loop μ-loop) where
-  abbrev s : tie.Start Inv-loop μ-loop
-  s = c .before .before .before .before
-
-  abbrev n : ℕ
-  n = c .before .loop .n
-
-  abbrev cellsOf : List ℕ
-  cellsOf = cellsIn (s .args .mode) (s .args .depth) (s .args .width) (s .args .height) (bytes s) n
-
-  here : n * (s .args .width * s .args .height) + s .args .width * s .args .height ≤ length (now (s .args .store))
-  here = item-space (s .args .count) _ _ n (s .pre .space) (c .loop-test .taken)
-
--- the buffer with the cells of tile n
-module _ (c : tie.After-unpack-cells Inv-loop μ-loop) where
-  abbrev l : tie.In-loop Inv-loop μ-loop
-  l = c .before .before
-
-  long : (cells : List ℕ) → cells ≡ overwrite (l .before .loop .cells) (cellsOf l) → length cells ≡ 4096
-  long cells e = cells-long (sound (s l)) (cell-native (s l)) (bytes (s l)) [] (n l) _ cells e (l .before .loop .inv .1 .0)
-
-loop-holds : tie.Need-loop-holds Inv-loop μ-loop
-loop-holds c = (search needs, (refl, filled-none _ _ _))
-
-unpack-cells-requires : tie.Need-unpack-cells-requires Inv-loop μ-loop
-unpack-cells-requires c κs =
+put-tiles-requires : tie.Need-put-tiles-requires
+put-tiles-requires c κs =
     let i = c .before in
-    record {
-      sound = s i .pre .sound;
-      cells = s i .pre .cells;
-      few = omega (arith, s i .pre .few, i .loop-test .taken);
-      inside = tile-inside (sound (s i)) (length (bytes (s i))) (n i) (omega (arith, s i .pre .is, i .loop-test .taken));
-      long = i .before .loop .inv .1 .0;
-    }
+    let s = i .before .before .before .before in
+    (s .pre, subst T (sym (i .if1 .taken) ∙ i .before .is-native .ensures) tt)
 
-mul-put-rows : tie.Need-mul-put-rows Inv-loop μ-loop
-mul-put-rows c = omega (arith, sound (s (l (c .before .before .before))) .small)
+returns : tie.Need-returns
+returns c = c .before .before .put-tiles .ensures
 
-mul-put-rows-2 : tie.Need-mul-put-rows-2 Inv-loop μ-loop
-mul-put-rows-2 c = omega (arith, here (l (c .before .before .before)))
+put-cells-requires : tie.Need-put-cells-requires
+put-cells-requires c κs =
+    let i = c .before in
+    let s = i .before .before .before .before in
+    (s .pre, in-cells (set-of _ _ _ _ (s .pre .sound)) (sym (i .before .is-native .ensures) ∙ i .if1 .left))
 
-put-rows-requires : tie.Need-put-rows-requires Inv-loop μ-loop
-put-rows-requires c κs =
-    let u = c .before .before .before in
-    let z = sound (s (l u)) in
-    record {
-      across = z .across;
-      down = z .down;
-      inside = omega (arith, long u _ (u .unpack-cells .ensures), z .small);
-      space = omega (arith, here (l u), l u .before .loop .inv .1 .1 .long);
-    }
-
-loop-less : tie.Need-loop-less Inv-loop μ-loop
-loop-less c = search needs
-
-loop-again : tie.Need-loop-again Inv-loop μ-loop
-loop-again c =
-    let u = c .before .before .before .before .before .before in
-    let i = l u in
-    let area = s i .args .width * s i .args .height in (
-      search needs,
-      (
-        long u _ (u .unpack-cells .ensures),
-        filled-next area (tile-length _ _ _ _ (bytes (s i))) (i .before .loop .inv .1 .1)
-            (c .before .before .put-rows .ensures
-            ∙ ap (λ (x : List ℕ). sets (i .before .loop .store) (n i * area) x)
-            (rows-are (sound (s i)) (cell-native (s i)) (bytes (s i)) _ (n i) _ (u .unpack-cells .ensures))),
-      ),
-    )
-
-returns : tie.Need-returns Inv-loop μ-loop
-unfolding readPixels
-returns c =
-    let s = c .before .before .before .before in
-    let a = s .args in
-    let count = readCount (a .mode) (a .depth) (a .width) (a .height) (length (bytes s)) in
-    filled-front (a .width * a .height) count (tile-length _ _ _ _ (bytes s)) (c .before .loop .inv .1 .1) (omega (arith, s .pre .is)) (rw (← s .pre .is) (s .pre .space))
+returns-2 : tie.Need-returns-2
+returns-2 c = c .before .before .put-cells .ensures
 
 pub put-read-spec : {M : Type 1} → statement M
 put-read-spec =
     tie.close
     (tie.spec
-    Inv-loop
-    μ-loop
-    loop-holds
+    (λ c κs. search needs)
+    put-tiles-requires
     (λ c. search needs)
-    unpack-cells-requires
+    returns
+    put-cells-requires
     (λ c. search needs)
-    (λ c. search needs)
-    mul-put-rows
-    mul-put-rows-2
-    put-rows-requires
-    (λ c. search needs)
-    loop-less
-    loop-again
-    (λ c. search needs)
-    returns)
+    returns-2)

@@ -5,9 +5,10 @@ use native.Mathlib.Omega.{arith}
 use lib.ListN.{length}
 use denote.Ref.{now}
 use borrow.Author.Needs.{needs}
-use Rattle.tileset.specs.Reading.{readableSays, readCount, readSays, readSet}
+use Rattle.tileset.specs.Sets.{setSays}
+use Rattle.tileset.specs.Reading.{readCount, readSays, readSet}
 use Rattle.tileset.proofs.Says.{setAnswer}
-use Rattle.tileset.proofs.ReadingLaws.{readable-mode, readable-says-set, read-readable, read-space, read-few, refuse-read, done-read}
+use Rattle.tileset.proofs.ReadingLaws.{read-says-set, read-space, read-few, refuse-read, done-read}
 use Rattle.tileset.proofs.reading.read.Statement.{statement}
 use Rattle.tileset.proofs.reading.read.Tie as tie
 
@@ -18,8 +19,8 @@ module _ (c : tie.Else1) where
   accepted : let a = s .args in readSays (a .mode) (a .depth) (a .width) (a .height) (length (now (a .bytes))) (length (now (a .store))) ≡ 0
   accepted = sym (c .before .read-says .ensures) ∙ c .if1 .left
 
-  readable : let a = s .args in readableSays (a .mode) (a .depth) (a .width) (a .height) ≡ 0
-  readable = let a = s .args in read-readable (a .mode) (a .depth) (a .width) (a .height) (length (now (a .bytes))) (length (now (a .store))) accepted
+  allowed : let a = s .args in setSays (a .mode) (a .depth) (a .width) (a .height) ≡ 0
+  allowed = let a = s .args in read-says-set (a .mode) (a .depth) (a .width) (a .height) (length (now (a .bytes))) (length (now (a .store))) accepted
 
   few : let a = s .args in readCount (a .mode) (a .depth) (a .width) (a .height) (length (now (a .bytes))) ≤ 65535
   few = let a = s .args in read-few (a .mode) (a .depth) (a .width) (a .height) (length (now (a .bytes))) (length (now (a .store))) accepted
@@ -31,7 +32,7 @@ returns c =
     refuse-read (a .mode) (a .depth) (a .width) (a .height) (a .flips) (now (a .bytes)) (now (a .store)) (n .result) (n .ensures) (c .if1 .taken) refl refl
 
 read-count-requires : tie.Need-read-count-requires
-read-count-requires c κs = (readable-says-set _ _ _ _ (readable c), readable-mode _ _ _ _ (readable c))
+read-count-requires c κs = allowed c
 
 cast-count : tie.Need-cast-count
 cast-count c = omega (arith, few (c .before), c .read-count .ensures)
@@ -42,8 +43,7 @@ put-read-requires c κs =
     let a = s e .args in
     let n = c .before .read-count in
     record {
-      sound = readable-says-set _ _ _ _ (readable e);
-      cells = readable-mode _ _ _ _ (readable e);
+      sound = allowed e;
       few = omega (arith, few e, n .ensures);
       is = n .ensures;
       space = rw (n .ensures) (read-space (a .mode) (a .depth) (a .width) (a .height) (length (now (a .bytes))) (length (now (a .store))) (accepted e));

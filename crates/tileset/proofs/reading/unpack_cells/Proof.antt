@@ -16,7 +16,7 @@ use Rattle.tileset.specs.Numbers.{rowCells, firstCell, Grid}
 use Rattle.tileset.specs.Reading.{cellIn}
 use Rattle.tileset.proofs.Sizes.{IsSet, set-of, grid-set}
 use Rattle.tileset.proofs.WritingLaws.{native-cell}
-use Rattle.tileset.proofs.ReadingLaws.{cell-in-length, unpacks-at, unpacks-cell, cell-inside, cell-row-fits, cells-area, starts-few}
+use Rattle.tileset.proofs.ReadingLaws.{cell-in-length, unpacks-at, cell-size, unpacks-cell, cell-inside, cell-row-fits, cells-area, starts-few}
 use Rattle.tileset.proofs.reading.unpack_cells.Statement.{statement}
 use Rattle.tileset.proofs.reading.unpack_cells.Tie as tie
 
@@ -140,7 +140,7 @@ mul-put-pixels-2 c = omega (arith, space (c .before .before .before))
 put-pixels-requires : tie.Need-put-pixels-requires Inv-loop μ-loop
 put-pixels-requires c κs =
     let l = c .before .before .before in
-    unpacks-at (cell-native (s l)) (f l .before .before .packing-of .ensures) _ _ _ _ (from l)
+    unpacks-at (cell-native (s l)) (f l .before .before .packing-of .ensures) _ _ _ _ (rw (cell-size (s l .args .depth)) (from l))
     (omega (arith, space l, l .before .loop .inv .1 .long, s l .pre .long))
 
 add-i : tie.Need-add-i Inv-loop μ-loop

@@ -1,9 +1,9 @@
 -- Tiles of a native size straight from the store, the others by their cells.
 use mathlib.Core.Path.{sym, _∙_, subst}
 use lib.Dec.{T}
-use denote.Ref.{now}
 use borrow.Author.Needs.{needs}
-use Rattle.tileset.proofs.WritingLaws.{no-sprite}
+use Rattle.tileset.proofs.Says.{held-set}
+use Rattle.tileset.proofs.WritingLaws.{in-cells}
 use Rattle.tileset.proofs.writing.put_set.Statement.{statement}
 use Rattle.tileset.proofs.writing.put_set.Tie as tie
 
@@ -20,7 +20,7 @@ put-cells-requires : tie.Need-put-cells-requires
 put-cells-requires c κs =
     let i = c .before in
     let s = i .before .before .before .before in
-    (s .pre, no-sprite (s .args .set) (now (s .args .store)) (s .pre .held) (sym (i .before .is-native .ensures) ∙ i .if1 .left))
+    (s .pre, in-cells (held-set (s .args .set) _ (s .pre .held)) (sym (i .before .is-native .ensures) ∙ i .if1 .left))
 
 returns-2 : tie.Need-returns-2
 returns-2 c = c .before .before .put-cells .ensures
