@@ -69,11 +69,11 @@ pub record HasBlock (store : List ℕ) (corner w : ℕ) (out : List ℕ) : Type 
   pub long : length out ≡ 64
 
 -- What reading the tiles asks, the cells of one tile up to its last, its rows, and one row.
-pub record ReadsAll (m d w h : ℕ) (bytes store : List ℕ) (count : ℕ) : Type 0 where
-  pub sound : setSays m d w h ≡ 0
-  pub few : count ≤ 65535
-  pub is : count ≡ readCount m d w h (length bytes)
-  pub space : count * (w * h) ≤ length store
+pub record ReadsAll (z : Set) (bytes store : List ℕ) : Type 0 where
+  pub sound : setSays (z .mode) (z .depth) (z .width) (z .height) ≡ 0
+  pub few : z .stored ≤ 65535
+  pub is : z .stored ≡ readCount (z .mode) (z .depth) (z .width) (z .height) (length bytes)
+  pub space : z .stored * area z ≤ length store
 
 pub record ReadsCells (m d w h : ℕ) (bytes : List ℕ) (n : ℕ) (out : List ℕ) : Type 0 where
   pub sound : setSays m d w h ≡ 0

@@ -136,47 +136,39 @@ fn put_rows(cells: &[u8], width: usize, height: usize, out: &mut [u8], at: usize
 }
 
 // Tiles in rows of cells, one after the other, out of their cells.
-fn put_cells(
-    mode: u32,
-    depth: u32,
-    width: u32,
-    height: u32,
-    bytes: &[u8],
-    count: u32,
-    store: &mut [u8],
-)
-    requires { ⌜ ReadsAll mode depth width height (now bytes) (now store) count × (mode ≡ pce-sprite → ⊥) ⌝ }
-    ensures { λ _. ⌜ now (store .exit) ≡ overwrite (now (store .entry)) (readPixels mode depth width height (now (bytes .entry))) ⌝ }
+fn put_cells(set: Set, bytes: &[u8], store: &mut [u8])
+    requires { ⌜ ReadsAll set (now bytes) (now store) × (set .mode ≡ pce-sprite → ⊥) ⌝ }
+    ensures { λ _. ⌜ now (store .exit) ≡ overwrite (now (store .entry)) (readPixels (set .mode) (set .depth) (set .width) (set .height) (now (bytes .entry))) ⌝ }
 {
     let mut cells = [0u8; 4096];
-    let w = width as usize;
-    let h = height as usize;
+    let w = set.width as usize;
+    let h = set.height as usize;
     let mut n: u32 = 0;
-    while n < count {
-        unpack_cells(mode, depth, width, height, bytes, Logical(n), &mut cells);
+    while n < set.stored {
+        unpack_cells(
+            set.mode,
+            set.depth,
+            set.width,
+            set.height,
+            bytes,
+            Logical(n),
+            &mut cells,
+        );
         put_rows(&cells, w, h, store, (n as usize) * (w * h));
         n += 1;
     }
 }
 
 // Tiles of a native size, one after the other, straight into the store.
-fn put_tiles(
-    mode: u32,
-    depth: u32,
-    width: u32,
-    height: u32,
-    bytes: &[u8],
-    count: u32,
-    store: &mut [u8],
-)
-    requires { ⌜ ReadsAll mode depth width height (now bytes) (now store) count × T (isNative mode width height) ⌝ }
-    ensures { λ _. ⌜ now (store .exit) ≡ overwrite (now (store .entry)) (readPixels mode depth width height (now (bytes .entry))) ⌝ }
+fn put_tiles(set: Set, bytes: &[u8], store: &mut [u8])
+    requires { ⌜ ReadsAll set (now bytes) (now store) × T (isNative (set .mode) (set .width) (set .height)) ⌝ }
+    ensures { λ _. ⌜ now (store .exit) ≡ overwrite (now (store .entry)) (readPixels (set .mode) (set .depth) (set .width) (set .height) (now (bytes .entry))) ⌝ }
 {
-    let p = tile::packing_of(Mode(mode), depth, width, height);
-    let n = (width * height) as usize;
+    let p = tile::packing_of(Mode(set.mode), set.depth, set.width, set.height);
+    let n = (set.width * set.height) as usize;
     let size = tile::byte_count(p);
     let mut i: u32 = 0;
-    while i < count {
+    while i < set.stored {
         let k = i as usize;
         tile::put_pixels(p, bytes, k * size, store, k * n);
         i += 1;
@@ -184,23 +176,15 @@ fn put_tiles(
 }
 
 // The tiles read, at the front of the store.
-fn put_read(
-    mode: u32,
-    depth: u32,
-    width: u32,
-    height: u32,
-    bytes: &[u8],
-    count: u32,
-    store: &mut [u8],
-)
-    requires { ⌜ ReadsAll mode depth width height (now bytes) (now store) count ⌝ }
-    ensures { λ _. ⌜ now (store .exit) ≡ overwrite (now (store .entry)) (readPixels mode depth width height (now (bytes .entry))) ⌝ }
+fn put_read(set: Set, bytes: &[u8], store: &mut [u8])
+    requires { ⌜ ReadsAll set (now bytes) (now store) ⌝ }
+    ensures { λ _. ⌜ now (store .exit) ≡ overwrite (now (store .entry)) (readPixels (set .mode) (set .depth) (set .width) (set .height) (now (bytes .entry))) ⌝ }
 {
-    if tile::is_native(Mode(mode), width, height) {
-        put_tiles(mode, depth, width, height, bytes, count, store);
+    if tile::is_native(Mode(set.mode), set.width, set.height) {
+        put_tiles(set, bytes, store);
         return;
     }
-    put_cells(mode, depth, width, height, bytes, count, store);
+    put_cells(set, bytes, store);
 }
 
 // Reads a set's tiles from bytes.
@@ -233,19 +217,17 @@ pub fn read(
         };
     }
     let count = read_count(mode, depth, width, height, bytes.len()) as u32;
-    put_read(mode, depth, width, height, bytes, count, store);
-    SetAnswer {
-        refusal: 0,
-        set: Set {
-            mode,
-            depth,
-            width,
-            height,
-            flips,
-            discarding: true,
-            limit: 0,
-            stored: count,
-            discarded: 0,
-        },
-    }
+    let set = Set {
+        mode,
+        depth,
+        width,
+        height,
+        flips,
+        discarding: true,
+        limit: 0,
+        stored: count,
+        discarded: 0,
+    };
+    put_read(set, bytes, store);
+    SetAnswer { refusal: 0, set }
 }

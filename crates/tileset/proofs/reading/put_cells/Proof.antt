@@ -19,42 +19,42 @@ use Rattle.tileset.proofs.reading.put_cells.Statement.{statement}
 use Rattle.tileset.proofs.reading.put_cells.Tie as tie
 
 abbrev Inv-loop : tie.InvT-loop
-Inv-loop mode depth width height bytes count store₀ cells₀ w h n₀ store cells n =
-    (n ≤ count) × ((length cells ≡ 4096) × Filled (tileIn mode depth width height bytes) store₀ 0 n store)
+Inv-loop set bytes store₀ cells₀ w h n₀ store cells n =
+    (n ≤ set .stored) × ((length cells ≡ 4096) × Filled (tileIn (set .mode) (set .depth) (set .width) (set .height) bytes) store₀ 0 n store)
 
 abbrev μ-loop : tie.MeasureT-loop
-μ-loop mode depth width height bytes count store₀ cells₀ w h n₀ store cells n = count - n
+μ-loop set bytes store₀ cells₀ w h n₀ store cells n = set .stored - n
 
 module _ (c : tie.Start Inv-loop μ-loop) where
   abbrev bytes : List ℕ
   bytes = now (c .args .bytes)
 
-  sound : IsSet (c .args .mode) (c .args .depth) (c .args .width) (c .args .height)
+  sound : IsSet (c .args .set .mode) (c .args .set .depth) (c .args .set .width) (c .args .set .height)
   sound = set-of _ _ _ _ (c .pre .0 .sound)
 
-  cell-native : Native (c .args .mode) (c .args .depth) 8 8
+  cell-native : Native (c .args .set .mode) (c .args .set .depth) 8 8
   cell-native = native-cell sound (c .pre .1)
 
-module _ (c : tie.In-loop Inv-loop μ-loop) where
+module _ (c : tie.Then1 Inv-loop μ-loop) where
   abbrev s : tie.Start Inv-loop μ-loop
-  s = c .before .before .before .before
+  s = c .before .before .before .before .before .before .before
 
   abbrev n : ℕ
-  n = c .before .loop .n
+  n = c .before .before .loop .n
 
   abbrev cellsOf : List ℕ
-  cellsOf = cellsIn (s .args .mode) (s .args .depth) (s .args .width) (s .args .height) (bytes s) n
+  cellsOf = cellsIn (s .args .set .mode) (s .args .set .depth) (s .args .set .width) (s .args .set .height) (bytes s) n
 
-  here : n * (s .args .width * s .args .height) + s .args .width * s .args .height ≤ length (now (s .args .store))
-  here = item-space (s .args .count) _ _ n (s .pre .0 .space) (c .loop-test .taken)
+  here : n * (s .args .set .width * s .args .set .height) + s .args .set .width * s .args .set .height ≤ length (now (s .args .store))
+  here = item-space (s .args .set .stored) _ _ n (s .pre .0 .space) (c .if1 .taken)
 
 -- the buffer with the cells of tile n
 module _ (c : tie.After-unpack-cells Inv-loop μ-loop) where
-  abbrev l : tie.In-loop Inv-loop μ-loop
+  abbrev l : tie.Then1 Inv-loop μ-loop
   l = c .before .before
 
-  long : (cells : List ℕ) → cells ≡ overwrite (l .before .loop .cells) (cellsOf l) → length cells ≡ 4096
-  long cells e = cells-long (sound (s l)) (s l .pre .1) (cell-native (s l)) (bytes (s l)) [] (n l) _ cells e (l .before .loop .inv .1 .0)
+  long : (cells : List ℕ) → cells ≡ overwrite (l .before .before .loop .cells) (cellsOf l) → length cells ≡ 4096
+  long cells e = cells-long (sound (s l)) (s l .pre .1) (cell-native (s l)) (bytes (s l)) [] (n l) _ cells e (l .before .before .loop .inv .1 .0)
 
 loop-holds : tie.Need-loop-holds Inv-loop μ-loop
 loop-holds c = (search needs, (refl, filled-none _ _ _))
@@ -65,9 +65,9 @@ unpack-cells-requires c κs =
     record {
       sound = s i .pre .0 .sound;
       cells = s i .pre .1;
-      few = omega (arith, s i .pre .0 .few, i .loop-test .taken);
-      inside = tile-inside (sound (s i)) (s i .pre .1) (length (bytes (s i))) (n i) (omega (arith, s i .pre .0 .is, i .loop-test .taken));
-      long = i .before .loop .inv .1 .0;
+      few = omega (arith, s i .pre .0 .few, i .if1 .taken);
+      inside = tile-inside (sound (s i)) (s i .pre .1) (length (bytes (s i))) (n i) (omega (arith, s i .pre .0 .is, i .if1 .taken));
+      long = i .before .before .loop .inv .1 .0;
     }
 
 mul-put-rows : tie.Need-mul-put-rows Inv-loop μ-loop
@@ -84,7 +84,7 @@ put-rows-requires c κs =
       across = z .across;
       down = z .down;
       inside = omega (arith, long u _ (u .unpack-cells .ensures), z .small);
-      space = omega (arith, here (l u), l u .before .loop .inv .1 .1 .long);
+      space = omega (arith, here (l u), l u .before .before .loop .inv .1 .1 .long);
     }
 
 loop-less : tie.Need-loop-less Inv-loop μ-loop
@@ -94,13 +94,13 @@ loop-again : tie.Need-loop-again Inv-loop μ-loop
 loop-again c =
     let u = c .before .before .before .before .before .before in
     let i = l u in
-    let area = s i .args .width * s i .args .height in (
+    let area = s i .args .set .width * s i .args .set .height in (
       search needs,
       (
         long u _ (u .unpack-cells .ensures),
-        filled-next area (tile-length _ _ _ _ (bytes (s i))) (i .before .loop .inv .1 .1)
+        filled-next area (tile-length _ _ _ _ (bytes (s i))) (i .before .before .loop .inv .1 .1)
             (c .before .before .put-rows .ensures
-            ∙ ap (λ (x : List ℕ). sets (i .before .loop .store) (n i * area) x)
+            ∙ ap (λ (x : List ℕ). sets (i .before .before .loop .store) (n i * area) x)
             (rows-are (sound (s i)) (s i .pre .1) (cell-native (s i)) (bytes (s i)) _ (n i) _ (u .unpack-cells .ensures))),
       ),
     )
@@ -108,10 +108,10 @@ loop-again c =
 returns : tie.Need-returns Inv-loop μ-loop
 unfolding readPixels
 returns c =
-    let s = c .before .before .before .before in
-    let a = s .args in
+    let s = c .before .before .before .before .before .before .before in
+    let a = s .args .set in
     let count = readCount (a .mode) (a .depth) (a .width) (a .height) (length (bytes s)) in
-    filled-front (a .width * a .height) count (tile-length _ _ _ _ (bytes s)) (c .before .loop .inv .1 .1) (omega (arith, s .pre .0 .is)) (rw (← s .pre .0 .is) (s .pre .0 .space))
+    filled-front (a .width * a .height) count (tile-length _ _ _ _ (bytes s)) (c .before .before .loop .inv .1 .1) (omega (arith, s .pre .0 .is)) (rw (← s .pre .0 .is) (s .pre .0 .space))
 
 pub put-cells-spec : {M : Type 1} → statement M
 put-cells-spec =
@@ -119,6 +119,8 @@ put-cells-spec =
     (tie.spec
     Inv-loop
     μ-loop
+    (λ c. search needs)
+    (λ c. search needs)
     loop-holds
     (λ c. search needs)
     unpack-cells-requires
