@@ -75,6 +75,9 @@ struct buffers {
     uint8_t store[4096];
     uint8_t common[512];
     uint8_t map[16];
+    uint8_t tile_half[RUMCHIVOAT_MODE7_HALF + 1];
+    uint8_t map_half[RUMCHIVOAT_MODE7_HALF + 1];
+    uint8_t block[RUMCHIVOAT_MODE7_BLOCK + 1];
 };
 
 static struct buffers lent, due;
@@ -887,6 +890,118 @@ static void strip_end(void) {
     no_picture(call, RUMCHIVOAT_REFUSED_ENTRY_PALETTE, rumchivoat_strip_end(run));
 }
 
+/* ---- the mode 7 block */
+
+enum { BLOCK = RUMCHIVOAT_MODE7_BLOCK, HALF = RUMCHIVOAT_MODE7_HALF };
+
+/* Bytes in both halves and a byte more, of which none is 0 and no two beside each other are the same; noise in the
+ * block. */
+static void begin_halves(void) {
+    begin();
+    for (uint32_t i = 0; i <= HALF; i++) {
+        lent.tile_half[i] = (uint8_t)(255 - i % 241);
+        lent.map_half[i] = (uint8_t)(1 + i % 251);
+    }
+    keep();
+}
+
+/* The same in a block, and noise in both halves. */
+static void begin_block(void) {
+    begin();
+    for (uint32_t i = 0; i <= BLOCK; i++) lent.block[i] = (uint8_t)(1 + i % 253);
+    keep();
+}
+
+/* A block is made of so many bytes, over what the last one left. */
+static void makes(size_t tiles_len, size_t map_len, size_t out_len) {
+    rumchivoat_written w =
+        rumchivoat_mode7_make(lent.tile_half, tiles_len, lent.map_half, map_len, lent.block, out_len);
+    for (uint32_t i = 0; i < HALF; i++) {
+        due.block[2 * i] = i < map_len ? due.map_half[i] : 0;
+        due.block[2 * i + 1] = i < tiles_len ? due.tile_half[i] : 0;
+    }
+    tell("rumchivoat_mode7_make", 0, is_written(w, 0, BLOCK));
+}
+
+/* The block is split, into halves of which so many bytes are lent. */
+static void splits(size_t tiles_len, size_t map_len) {
+    rumchivoat_written w =
+        rumchivoat_mode7_split(lent.block, BLOCK, lent.tile_half, tiles_len, lent.map_half, map_len);
+    for (uint32_t i = 0; i < HALF; i++) {
+        due.map_half[i] = due.block[2 * i];
+        due.tile_half[i] = due.block[2 * i + 1];
+    }
+    tell("rumchivoat_mode7_split", 0, is_written(w, 0, HALF));
+}
+
+static void mode7_make(void) {
+    static const char call[] = "rumchivoat_mode7_make";
+    uint8_t *t = lent.tile_half, *m = lent.map_half, *out = lent.block;
+    begin_halves();
+    /* short inputs over noise, then over a full block; one tile with nine rows of the map, 256 tiles with a row and a
+     * half */
+    makes(7, 33, BLOCK + 1);
+    makes(HALF, HALF, BLOCK + 1);
+    makes(64, 9 * 128, BLOCK + 1);
+    makes(HALF, HALF, BLOCK);
+    makes(HALF, 128 + 64, BLOCK);
+    makes(HALF - 1, HALF, BLOCK);
+    makes(HALF, HALF - 1, BLOCK);
+    makes(HALF, 0, BLOCK);
+    makes(0, HALF, BLOCK);
+    makes(1, 0, BLOCK);
+    makes(0, 1, BLOCK);
+    makes(HALF, HALF, BLOCK);
+    makes(0, 0, BLOCK + 1);
+    /* an input too long comes before an output too short */
+    no_bytes(call, RUMCHIVOAT_REFUSED_LENGTH, rumchivoat_mode7_make(t, HALF + 1, m, HALF, out, BLOCK));
+    no_bytes(call, RUMCHIVOAT_REFUSED_LENGTH, rumchivoat_mode7_make(t, HALF, m, HALF + 1, out, BLOCK));
+    no_bytes(call, RUMCHIVOAT_REFUSED_LENGTH, rumchivoat_mode7_make(t, HALF + 1, m, 0, out, BLOCK - 1));
+    no_bytes(call, RUMCHIVOAT_REFUSED_LENGTH, rumchivoat_mode7_make(t, 0, m, HALF + 1, out, 0));
+    no_bytes(call, RUMCHIVOAT_REFUSED_OUTPUT, rumchivoat_mode7_make(t, HALF, m, HALF, out, BLOCK - 1));
+    /* the whole block is written, however little there is to be put in it */
+    no_bytes(call, RUMCHIVOAT_REFUSED_OUTPUT, rumchivoat_mode7_make(t, 64, m, 128, out, BLOCK - 1));
+    no_bytes(call, RUMCHIVOAT_REFUSED_OUTPUT, rumchivoat_mode7_make(t, 0, m, 0, out, 0));
+}
+
+static void mode7_split(void) {
+    static const char call[] = "rumchivoat_mode7_split";
+    uint8_t *b = lent.block, *t = lent.tile_half, *m = lent.map_half;
+    begin_block();
+    splits(HALF + 1, HALF + 1);
+    begin_block();
+    splits(HALF, HALF);
+    begin_block();
+    /* a block of another length comes before an output too short */
+    no_bytes(call, RUMCHIVOAT_REFUSED_LENGTH, rumchivoat_mode7_split(b, BLOCK - 1, t, HALF, m, HALF));
+    no_bytes(call, RUMCHIVOAT_REFUSED_LENGTH, rumchivoat_mode7_split(b, BLOCK + 1, t, HALF, m, HALF));
+    no_bytes(call, RUMCHIVOAT_REFUSED_LENGTH, rumchivoat_mode7_split(b, BLOCK - 2, t, HALF - 1, m, HALF));
+    no_bytes(call, RUMCHIVOAT_REFUSED_LENGTH, rumchivoat_mode7_split(b, 0, t, 0, m, 0));
+    no_bytes(call, RUMCHIVOAT_REFUSED_OUTPUT, rumchivoat_mode7_split(b, BLOCK, t, HALF - 1, m, HALF));
+    no_bytes(call, RUMCHIVOAT_REFUSED_OUTPUT, rumchivoat_mode7_split(b, BLOCK, t, HALF, m, HALF - 1));
+    no_bytes(call, RUMCHIVOAT_REFUSED_OUTPUT, rumchivoat_mode7_split(b, BLOCK, t, 0, m, 0));
+}
+
+/* Split then make returns the block, and make then split the inputs with the 0 fill: noise is lent, and what came is
+ * due. */
+static void mode7_and_back(void) {
+    uint8_t *b = lent.block, *t = lent.tile_half, *m = lent.map_half;
+    rumchivoat_written w;
+    begin_block();
+    splits(HALF, HALF);
+    memset(b, 0xa5, BLOCK);
+    w = rumchivoat_mode7_make(t, HALF, m, HALF, b, BLOCK);
+    tell("rumchivoat_mode7_make", 0, is_written(w, 0, BLOCK));
+    begin_halves();
+    makes(100, 1000, BLOCK);
+    memset(t, 0xa5, HALF);
+    memset(m, 0xa5, HALF);
+    w = rumchivoat_mode7_split(b, BLOCK, t, HALF, m, HALF);
+    memset(due.tile_half + 100, 0, HALF - 100);
+    memset(due.map_half + 1000, 0, HALF - 1000);
+    tell("rumchivoat_mode7_split", 0, is_written(w, 0, HALF));
+}
+
 /* ---- the program on slices */
 
 /* Puts a sheet into the input, its lines and pixels of 0, and answers its length. */
@@ -1098,7 +1213,7 @@ static void takes(const char *what, void (*job)(void), size_t most) {
 }
 
 static rumchivoat_picture largest, in_strips;
-static rumchivoat_written drawn, longest;
+static rumchivoat_written drawn, made, split, longest;
 
 static void convert_largest(void) {
     largest = rumchivoat_convert(PCE, 4, false, true, 0, 0, 64, 64, all_pixels, sizeof all_pixels, all_tiles,
@@ -1123,6 +1238,14 @@ static void redraw_largest(void) {
                               sizeof all_pixels);
 }
 
+static void make_block(void) {
+    made = rumchivoat_mode7_make(lent.tile_half, HALF, lent.map_half, HALF, lent.block, BLOCK);
+}
+
+static void split_block(void) {
+    split = rumchivoat_mode7_split(lent.block, BLOCK, lent.tile_half, HALF, lent.map_half, HALF);
+}
+
 static void run_longest(void) {
     static const char lines[] = "mode=snes\ndepth=8\nflip=1\ndiscard=0\nlimit=0\npalette=0\ncolumns=32\nrows=32\n";
     size_t length = sizeof lines - 1;
@@ -1140,6 +1263,10 @@ static void figures(void) {
            is_picture(in_strips, 0, 4096, 0, sizeof all_tiles, sizeof all_map) && strips_are_the_whole());
     takes("rumchivoat_redraw", redraw_largest, RUMCHIVOAT_STACK_OTHERS);
     stated("the largest redraw is", is_written(drawn, 0, RUMCHIVOAT_PICTURE_PIXELS(64, 64)));
+    takes("rumchivoat_mode7_make", make_block, RUMCHIVOAT_STACK_OTHERS);
+    stated("the mode 7 block is", is_written(made, 0, BLOCK));
+    takes("rumchivoat_mode7_split", split_block, RUMCHIVOAT_STACK_OTHERS);
+    stated("its halves are", is_written(split, 0, HALF));
     takes("rumchivoat_run", run_longest, RUMCHIVOAT_STACK_RUN);
     stated("the longest text is", is_written(longest, 0, 67691));
 }
@@ -1170,6 +1297,9 @@ static void every_call(void) {
     strip_take();
     strip_end();
     redraw();
+    mode7_make();
+    mode7_split();
+    mode7_and_back();
     run();
     cured_tiles();
     cured_sets();

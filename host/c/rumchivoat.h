@@ -23,7 +23,7 @@
 #include <stdint.h>
 
 /* The number of the interface that this header is about. Compare it with rumchivoat_interface() of the archive. */
-#define RUMCHIVOAT_INTERFACE 6
+#define RUMCHIVOAT_INTERFACE 7
 
 /* ---- the sixteen modes */
 
@@ -58,7 +58,8 @@
                                                * more rows than the run's picture has */
 #define RUMCHIVOAT_REFUSED_ROWS 19u           /* a run ended before its last row, a strip past it */
 #define RUMCHIVOAT_REFUSED_LENGTH 7u          /* input length not the one required; a map that names a tile not there;
-                                               * a strip that is empty, or is not whole rows */
+                                               * a strip that is empty, or is not whole rows; more than 16,384 bytes of
+                                               * tiles or map for a mode 7 block */
 #define RUMCHIVOAT_REFUSED_PIXEL 8u           /* a pixel of 2^depth or more, in tile packing or set writing */
 #define RUMCHIVOAT_REFUSED_COMPONENT 9u       /* a component r, g or b above the top */
 #define RUMCHIVOAT_REFUSED_ENTRY_TILE 15u     /* the tile index of an entry is larger than its bits can hold */
@@ -101,6 +102,10 @@
 /* A strip of so many whole rows of tiles. The tile buffer and the map of a run are the whole picture's. */
 #define RUMCHIVOAT_STRIP_PIXELS(columns, strip_rows) RUMCHIVOAT_PICTURE_PIXELS(columns, strip_rows)
 
+/* The mode 7 block, and each of its halves: a map of 128x128 entries of a byte, and 256 tiles of 64 pixels. */
+#define RUMCHIVOAT_MODE7_BLOCK 32768
+#define RUMCHIVOAT_MODE7_HALF 16384
+
 /* The program on slices: the longest sheet, and what no text exceeds (proved; the longest there is has 67,691). */
 #define RUMCHIVOAT_SHEET_MOST 65641
 #define RUMCHIVOAT_TEXT_MOST 67840
@@ -118,7 +123,7 @@ extern "C" {
 
 /* ---- answers */
 
-/* Of a call that writes: the length written, from the buffer's start. */
+/* Of a call that writes: the length written, from the buffer's start; where it writes two buffers, that in each. */
 typedef struct rumchivoat_written {
     uint32_t refusal;
     size_t written;
@@ -419,6 +424,24 @@ rumchivoat_picture rumchivoat_strip_end(rumchivoat_strip_run run);
 rumchivoat_written rumchivoat_redraw(uint32_t mode, uint32_t depth, uint32_t columns, uint32_t rows,
                                      const uint8_t *tiles, size_t tiles_len, const uint8_t *map, size_t map_len,
                                      uint8_t *out, size_t out_len);
+
+/* Makes the mode 7 block as the console holds it: its even bytes are the 128x128 map's, its odd ones those of the 256
+ * tiles, of 64 pixels each. Byte 2i is byte i of `map`, and byte 2i + 1 byte i of `tiles`; 0 where that has ended. A
+ * picture's map has fewer columns: the host lays it out first, 128 bytes a row.
+ * Reads    `tiles` and `map`: RUMCHIVOAT_MODE7_HALF of each, or fewer, or none.
+ * Writes   `out`: RUMCHIVOAT_MODE7_BLOCK.
+ * Refused  7 tiles_len or map_len is more than RUMCHIVOAT_MODE7_HALF; 11 out_len.
+ * Stack    RUMCHIVOAT_STACK_OTHERS. */
+rumchivoat_written rumchivoat_mode7_make(const uint8_t *tiles, size_t tiles_len, const uint8_t *map, size_t map_len,
+                                         uint8_t *out, size_t out_len);
+
+/* Splits a mode 7 block into its halves; inverts rumchivoat_mode7_make, whose inputs come back with the 0 fill.
+ * Reads    `block`: RUMCHIVOAT_MODE7_BLOCK.
+ * Writes   `tiles`: the odd bytes; `map`: the even ones; RUMCHIVOAT_MODE7_HALF in each, which is the length answered.
+ * Refused  7 block_len; 11 tiles_len or map_len.
+ * Stack    RUMCHIVOAT_STACK_OTHERS. */
+rumchivoat_written rumchivoat_mode7_split(const uint8_t *block, size_t block_len, uint8_t *tiles, size_t tiles_len,
+                                          uint8_t *map, size_t map_len);
 
 /* The program `convert` on slices: a sheet and its pixels come to a report with tile bytes and map bytes, or to the one
  * line `refused=N`. `refusal` is the N that the text tells, 0 for a report, and `written` the length of the text, that

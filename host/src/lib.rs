@@ -19,6 +19,9 @@
 //! # }
 //! ```
 //!
+//! A snes_mode7 picture comes to the console as one block, in which map and tiles stand byte beside byte: [`mode7_make`]
+//! makes it from what a conversion gives, and [`mode7_split`] takes it apart.
+//!
 //! # Two layers
 //!
 //! The plain calls ([`convert`], [`pack_colors`], [`Set::add`], [`Run::take`] ..) take numbers and lent slices, as the
@@ -73,6 +76,7 @@ mod color;
 mod entry;
 mod interface;
 mod mode;
+mod mode7;
 mod picture;
 mod raw;
 mod refusal;
@@ -91,6 +95,7 @@ pub use color::{
 pub use entry::{Entry, attribute, pack_entry, tile_index, unpack_entry};
 pub use interface::{INTERFACE, InterfaceMismatch, check_interface};
 pub use mode::{Mode, UnknownMode};
+pub use mode7::{MODE7_BLOCK, MODE7_HALF, Mode7Halves, mode7_make, mode7_make_to_vec, mode7_split, mode7_split_to_vec};
 pub use picture::{Converted, MapSize, Picture, Settings, convert, redraw};
 pub use refusal::Refusal;
 pub use refused::{Cause, Refused};
@@ -119,6 +124,6 @@ mod tests {
         is_shared_by_threads::<(Set, SetSettings, Place, Native, Logical, Ran, Text)>();
         is_shared_by_threads::<(TileSet<Vec<u8>>, TileSet<&mut [u8]>)>();
         is_shared_by_threads::<(Held, Title<Vec<u8>>, Title<&mut [u8]>)>();
-        is_shared_by_threads::<(Run, Strips<Vec<u8>>, Strips<&mut [u8]>)>();
+        is_shared_by_threads::<(Run, Strips<Vec<u8>>, Strips<&mut [u8]>, Mode7Halves)>();
     }
 }

@@ -4,11 +4,13 @@
 //! None of them asks anything of its arguments beyond what Rust's own types give, so each call below is sound for every
 //! slice and number: of two lent slices one is `&mut`, and then they do not overlap, or both are only read.
 
+mod mode7;
 mod picture;
 mod sheet;
 mod strip;
 mod title;
 
+pub(crate) use mode7::{mode7_make, mode7_split};
 pub(crate) use picture::{convert, redraw};
 pub(crate) use sheet::run;
 pub(crate) use strip::{strip_end, strip_start, strip_take};

@@ -39,7 +39,7 @@ pub enum Refusal {
     /// 19: a run ended before its last row, or a strip past it.
     Rows,
     /// 7: input length not the one required; in redrawing also tile bytes that end before a tile the map names; a strip
-    /// that is not whole rows, or is empty.
+    /// that is not whole rows, or is empty; more tile bytes or map bytes than a mode 7 block holds.
     Length,
     /// 8: a pixel of 2^depth or more, in tile packing or set writing.
     Pixel,
@@ -139,7 +139,8 @@ impl Refusal {
             }
             Refusal::Rows => "the picture's last rows have not come yet, or the strip goes past them",
             Refusal::Length => {
-                "the input is not as long as it must be, or not whole rows, or the map names a tile that is not there"
+                "the input is not as long as it must be, or longer than it may be, or not whole rows, or the map names a \
+                 tile that is not there"
             }
             Refusal::Pixel => "a pixel does not fit the depth",
             Refusal::Component => "a colour component is above the mode's top",

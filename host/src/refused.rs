@@ -3,7 +3,7 @@
 use std::error::Error;
 use std::fmt;
 
-use crate::{MapSize, Mode, Refusal, TileSize};
+use crate::{MODE7_BLOCK, MODE7_HALF, MapSize, Mode, Refusal, TileSize};
 
 /// What the typed calls answer where they are refused: the refusal, and its cause, told in a sentence that
 /// needs no paper at hand. The plain calls on slices answer the [`Refusal`] alone.
@@ -198,6 +198,18 @@ pub enum Cause {
         /// The rows of tiles that are still to come.
         left: u32,
     },
+    /// A mode 7 block is to be made from more bytes than a half of it holds.
+    Mode7Half {
+        /// What is counted, in the singular.
+        what: &'static str,
+        /// How many were given.
+        given: usize,
+    },
+    /// What is to be split is not as long as a mode 7 block.
+    Mode7Block {
+        /// How many bytes were given.
+        given: usize,
+    },
 }
 
 /// So many of a thing: `1 byte`, `2 bytes`.
@@ -307,6 +319,13 @@ impl Cause {
             Cause::RowsLeft { left } => {
                 let are = number_of(left as usize, "is", "are");
                 write!(f, "{} of tiles {are} still to come", Counted(left as usize, "row"))
+            }
+            Cause::Mode7Half { what, given } => {
+                write!(f, "a mode 7 block holds at most {}, {given} were given", Counted(MODE7_HALF, what))
+            }
+            Cause::Mode7Block { given } => {
+                let were = number_of(given, "was", "were");
+                write!(f, "a mode 7 block has {}, {given} {were} given", Counted(MODE7_BLOCK, "byte"))
             }
         }
     }

@@ -4,6 +4,8 @@
 //! panics, the difference is asserted as such; `DIFFERENCES` has the smallest input of each kind.
 
 mod common;
+#[path = "comparison/mode7.rs"]
+mod mode7;
 #[path = "comparison/pictures.rs"]
 mod pictures;
 #[path = "comparison/sets.rs"]
@@ -26,7 +28,7 @@ fn the_port_and_the_rust() {
     if superfamiconv::absent("comparison with the Rust") {
         return;
     }
-    let parts: [Part; 37] = [
+    let parts: [Part; 40] = [
         ("modes", modes),
         ("single-bit tiles, both ways", tiles::single_bit_tiles),
         ("random tiles, both ways", tiles::random_tiles),
@@ -63,7 +65,10 @@ fn the_port_and_the_rust() {
         ("pictures converted by one and redrawn by the other", pictures::there_and_back),
         ("flips and palettes that are none", pictures::flips_and_palettes_that_are_none),
         ("pictures stopped by max_tile_count", pictures::stopped_by_max_tile_count),
-        ("known differences", || known_differences() + sets::known_differences() + pictures::known_differences()),
+        ("mode 7 blocks of maps of every shape", mode7::maps_of_every_shape),
+        ("mode 7 blocks of every number of tiles", mode7::every_number_of_tiles),
+        ("mode 7 blocks of a single bit", mode7::single_bits),
+        ("known differences", every_known_difference),
     ];
     let mut sum = 0;
     for (name, part) in parts {
@@ -72,6 +77,10 @@ fn the_port_and_the_rust() {
         sum += count;
     }
     say(&format!("comparison with the Rust: {sum} comparisons in {} parts, all as expected", parts.len()));
+}
+
+fn every_known_difference() -> u64 {
+    known_differences() + sets::known_differences() + pictures::known_differences() + mode7::known_differences()
 }
 
 fn rows() -> impl Iterator<Item = (u32, &'static Row, plain::Mode)> {

@@ -2,7 +2,8 @@
 //! refused.
 
 use rumchivoat::{
-    MapSize, Mode, Refusal, Run, Set, SetSettings, Settings, Strips, TileSet, TileSize, Title, convert, pack_colors,
+    MODE7_BLOCK, MODE7_HALF, MapSize, Mode, Mode7Halves, Refusal, Run, Set, SetSettings, Settings, Strips, TileSet,
+    TileSize, Title, convert, mode7_make, mode7_make_to_vec, mode7_split, mode7_split_to_vec, pack_colors,
     pack_colors_to_vec, pack_tile, pack_tile_to_vec, redraw, unpack_colors, unpack_colors_to_vec, unpack_tile,
     unpack_tile_to_vec,
 };
@@ -239,6 +240,29 @@ fn titles() {
     }
 }
 
+/// A mode 7 block and its halves: the lengths that the constants tell are taken and written, one byte less of what is
+/// written is refused, and one byte more of what is given.
+#[test]
+fn mode7_blocks() {
+    let (mut block, mut tiles, mut map) = (vec![1; MODE7_BLOCK], vec![2; MODE7_HALF], vec![3; MODE7_HALF]);
+    assert_eq!(mode7_make(&tiles, &map, &mut block), Ok(MODE7_BLOCK));
+    assert_eq!(mode7_make(&tiles, &map, &mut block[1..]), Err(Refusal::Output));
+    let longer = vec![4; MODE7_HALF + 1];
+    assert_eq!(mode7_make(&longer, &map, &mut block), Err(Refusal::Length));
+    assert_eq!(mode7_make(&tiles, &longer, &mut block), Err(Refusal::Length));
+    assert_eq!(block, [3, 2].repeat(MODE7_HALF));
+
+    assert_eq!(mode7_split(&block, &mut tiles[1..], &mut map), Err(Refusal::Output));
+    assert_eq!(mode7_split(&block, &mut tiles, &mut map[1..]), Err(Refusal::Output));
+    assert_eq!(mode7_split(&block[1..], &mut tiles, &mut map), Err(Refusal::Length));
+    assert_eq!(mode7_split(&[&block[..], &[0]].concat(), &mut tiles, &mut map), Err(Refusal::Length));
+    assert_eq!(mode7_split(&block, &mut tiles, &mut map), Ok(MODE7_HALF));
+
+    // a picture's tile bytes and its map, at their longest, are not too long
+    let largest = Settings::new(Mode::SnesMode7, 8, MapSize { columns: 64, rows: 64 });
+    assert_eq!((largest.tile_len().unwrap(), largest.map_len().unwrap()), (MODE7_HALF, 64 * 64));
+}
+
 /// The calls that give a `Vec` give what the calls on slices write, and are refused as they are.
 #[test]
 fn vectors_hold_what_slices_do() {
@@ -258,6 +282,25 @@ fn vectors_hold_what_slices_do() {
                 }
             }
         }
+    }
+}
+
+#[test]
+fn mode7_vectors_hold_what_slices_do() {
+    let input: Vec<u8> = (0..65_536u32).map(|place| (place * place / 7 % 251) as u8).collect();
+    let lengths = [0, 1, 63, 64, 4096, 16_383, 16_384, 16_385, 32_767, 32_768, 32_769, 65_536];
+    for (one, other) in lengths.iter().flat_map(|&one| lengths.map(|other| (one, other))) {
+        let (tiles, map) = (&input[..one], &input[input.len() - other..]);
+        let mut out = vec![0xee; MODE7_BLOCK + 1];
+        let made = mode7_make(tiles, map, &mut out).map(|written| out[..written].to_vec());
+        assert_eq!(mode7_make_to_vec(tiles, map).map_err(Refusal::from), made, "{one} {other}");
+    }
+    for length in lengths {
+        let (mut tiles, mut map) = (vec![0xee; MODE7_HALF + 1], vec![0xee; MODE7_HALF + 1]);
+        let split = mode7_split(&input[..length], &mut tiles, &mut map)
+            .map(|written| (tiles[..written].to_vec(), map[..written].to_vec()));
+        let halves = mode7_split_to_vec(&input[..length]).map(|Mode7Halves { tiles, map, .. }| (tiles, map));
+        assert_eq!(halves.map_err(Refusal::from), split, "{length}");
     }
 }
 

@@ -5,10 +5,11 @@ use std::hint::black_box;
 use std::thread;
 
 use rumchivoat::{
-    Entry, LONGEST_TEXT, Logical, MapSize, Mode, Native, Rounding, Run, Set, SetSettings, Settings, Strips, TileSet,
-    TileSize, Title, attribute, check_interface, convert, logical_number, native_number, pack_colors,
-    pack_colors_to_vec, pack_entry, pack_tile, pack_tile_to_vec, redraw, reduce_channel, run, run_to_vec, scale_up,
-    stack, tile_index, unpack_colors, unpack_colors_to_vec, unpack_entry, unpack_tile, unpack_tile_to_vec,
+    Entry, LONGEST_TEXT, Logical, MODE7_BLOCK, MODE7_HALF, MapSize, Mode, Native, Rounding, Run, Set, SetSettings,
+    Settings, Strips, TileSet, TileSize, Title, attribute, check_interface, convert, logical_number, mode7_make,
+    mode7_make_to_vec, mode7_split, mode7_split_to_vec, native_number, pack_colors, pack_colors_to_vec, pack_entry,
+    pack_tile, pack_tile_to_vec, redraw, reduce_channel, run, run_to_vec, scale_up, stack, tile_index, unpack_colors,
+    unpack_colors_to_vec, unpack_entry, unpack_tile, unpack_tile_to_vec,
 };
 
 /// What Rust's start of a thread takes of its stack, before and after the call, with the system's share of it. The
@@ -346,8 +347,38 @@ fn redraws() -> Vec<Call> {
     calls
 }
 
+/// Whole inputs, inputs that have ended, and ones of a wrong length, in buffers that are long enough and too short.
+fn blocks() -> Vec<Call> {
+    let makes = |name, done, tiles: usize, map: usize, room: usize| {
+        let (tiles, map, mut out) = (different_pixels(tiles), different_pixels(map), vec![0; room]);
+        call(name, stack::OTHERS, done, move || mode7_make(&tiles, &map, &mut out).is_ok())
+    };
+    let splits = |name, done, block: usize, room: usize| {
+        let (block, mut tiles, mut map) = (different_pixels(block), vec![0; room], vec![0; room]);
+        call(name, stack::OTHERS, done, move || mode7_split(&block, &mut tiles, &mut map).is_ok())
+    };
+    let [half, longer, block, short] = [MODE7_HALF, MODE7_HALF + 1, MODE7_BLOCK, MODE7_BLOCK - 1].map(different_pixels);
+    let also_half = half.clone();
+    let made = move || mode7_make_to_vec(&half, &half).is_ok();
+    let refused = move || mode7_make_to_vec(&also_half, &longer).is_ok();
+    vec![
+        makes("mode7_make", true, MODE7_HALF, MODE7_HALF, MODE7_BLOCK),
+        makes("mode7_make, a picture", true, 100 * 64, 4096, MODE7_BLOCK + 1),
+        makes("mode7_make, of nothing", true, 0, 0, MODE7_BLOCK),
+        makes("mode7_make, a wrong length", false, MODE7_HALF + 1, 0, MODE7_BLOCK),
+        makes("mode7_make, no room", false, MODE7_HALF, MODE7_HALF, MODE7_BLOCK - 1),
+        call("mode7_make_to_vec", stack::OTHERS, true, made),
+        call("mode7_make_to_vec, a wrong length", stack::OTHERS, false, refused),
+        splits("mode7_split", true, MODE7_BLOCK, MODE7_HALF),
+        splits("mode7_split, a wrong length", false, MODE7_BLOCK + 1, MODE7_HALF),
+        splits("mode7_split, no room", false, MODE7_BLOCK, MODE7_HALF - 1),
+        call("mode7_split_to_vec", stack::OTHERS, true, move || mode7_split_to_vec(&block).is_ok()),
+        call("mode7_split_to_vec, a wrong length", stack::OTHERS, false, move || mode7_split_to_vec(&short).is_ok()),
+    ]
+}
+
 fn calls() -> Vec<Call> {
-    let pictures = [conversions(), strips(), runs(), redraws()];
+    let pictures = [conversions(), strips(), runs(), redraws(), blocks()];
     let others = [tiles(), colors(), entries(), sets(), titles()];
     pictures.into_iter().chain(others).flatten().collect()
 }

@@ -2,7 +2,10 @@
 
 use std::thread;
 
-use rumchivoat::{Converted, MapSize, Mode, Run, Set, SetSettings, Settings, Strips, TileSize, Title, run_to_vec};
+use rumchivoat::{
+    Converted, MapSize, Mode, Mode7Halves, Run, Set, SetSettings, Settings, Strips, TileSize, Title, mode7_make_to_vec,
+    mode7_split_to_vec, run_to_vec,
+};
 
 const THREADS: usize = 8;
 const TURNS: usize = 20;
@@ -78,6 +81,25 @@ fn strips_do_not_meet() {
     thread::scope(|scope| {
         for (number, expected) in alone.iter().enumerate() {
             scope.spawn(move || (0..TURNS).for_each(|_| assert!(strip_work(number) == *expected, "run {number}")));
+        }
+    });
+}
+
+/// A block of tiles and a map that depend on the number, and the block taken apart.
+fn block_work(number: usize) -> (Vec<u8>, Mode7Halves) {
+    let map: Vec<u8> = (0..128 * (100 + number)).map(|place| (place * (number + 1) % 253) as u8).collect();
+    let block = mode7_make_to_vec(&tiles(number, 200 + number), &map).expect("neither is too long");
+    let halves = mode7_split_to_vec(&block).expect("it is a block");
+    (block, halves)
+}
+
+#[test]
+fn blocks_do_not_meet() {
+    let alone: Vec<_> = (0..THREADS).map(block_work).collect();
+    assert!(alone.iter().zip(&alone[1..]).all(|(one, other)| one != other));
+    thread::scope(|scope| {
+        for (number, expected) in alone.iter().enumerate() {
+            scope.spawn(move || (0..TURNS).for_each(|_| assert!(block_work(number) == *expected, "block {number}")));
         }
     });
 }

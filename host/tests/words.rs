@@ -2,7 +2,8 @@
 
 use rumchivoat::{
     Cause, Entry, Logical, MapSize, Mode, Native, Refusal, Refused, SetSettings, Settings, Strips, TileSet, TileSize,
-    Title, pack_colors_to_vec, pack_tile_to_vec, unpack_colors_to_vec, unpack_tile_to_vec,
+    Title, mode7_make_to_vec, mode7_split_to_vec, pack_colors_to_vec, pack_tile_to_vec, unpack_colors_to_vec,
+    unpack_tile_to_vec,
 };
 
 /// The words of a call that is refused.
@@ -163,6 +164,28 @@ fn strips() {
     assert_eq!(words(strips.take(&[1; 1])), "refused 19: 0 pixels are still to come, 1 was given");
     assert_eq!(words(strips.take(&[])), format!("{whole_rows} 0 were given"));
     assert_eq!(words(strips.end()), "it was done");
+}
+
+#[test]
+fn mode7_blocks() {
+    let make = |tiles: usize, map: usize| words(mode7_make_to_vec(&vec![0; tiles], &vec![0; map]));
+    let most = "refused 7: a mode 7 block holds at most 16384";
+    assert_eq!(make(16_385, 0), format!("{most} tile bytes, 16385 were given"));
+    assert_eq!(make(0, 16_385), format!("{most} map bytes, 16385 were given"));
+    assert_eq!(make(16_384, 32_768), format!("{most} map bytes, 32768 were given"));
+    // where both are too long, the tiles are told
+    assert_eq!(make(20_000, 30_000), format!("{most} tile bytes, 20000 were given"));
+    assert_eq!(make(16_384, 16_384), "it was done");
+    assert_eq!(make(0, 0), "it was done");
+
+    let split = |length: usize| words(mode7_split_to_vec(&vec![0; length]));
+    let needed = "refused 7: a mode 7 block has 32768 bytes,";
+    assert_eq!(split(0), format!("{needed} 0 were given"));
+    assert_eq!(split(1), format!("{needed} 1 was given"));
+    assert_eq!(split(5), format!("{needed} 5 were given"));
+    assert_eq!(split(32_767), format!("{needed} 32767 were given"));
+    assert_eq!(split(65_536), format!("{needed} 65536 were given"));
+    assert_eq!(split(32_768), "it was done");
 }
 
 /// A run's buffers that shrink behind its back are told, and not written beyond their end.

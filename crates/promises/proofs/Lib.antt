@@ -1,3 +1,4 @@
 pub mod StripTake
 pub mod OneResult
+pub mod Mode7
 pub mod Examples

@@ -56,6 +56,10 @@ use Rattle.promises.proofs.StripTake as strip-take
 use Rattle.rumchivoat.proofs.rumchivoat_strip_take as strip-take-call
 use Rattle.rumchivoat.proofs.rumchivoat_strip_end.Reads as strip-end
 use Rattle.rumchivoat.proofs.rumchivoat_strip_end as strip-end-call
+use Rattle.rumchivoat.proofs.rumchivoat_mode7_make.Reads as mode7-make
+use Rattle.rumchivoat.proofs.rumchivoat_mode7_make as mode7-make-call
+use Rattle.rumchivoat.proofs.rumchivoat_mode7_split.Reads as mode7-split
+use Rattle.rumchivoat.proofs.rumchivoat_mode7_split as mode7-split-call
 use Rattle.rumchivoat.proofs.rumchivoat_run.Reads as run
 use Rattle.rumchivoat.proofs.rumchivoat_run as run-call
 
@@ -184,6 +188,21 @@ strip-take-map κs a x y s t p q = p .converts .alsoLent ∙ sym (q .converts .a
 
 pub strip-end-result : OneResult strip-end-call.ended strip-end.Post
 strip-end-result κs a x y s t p q = p ∙ sym q
+
+pub mode7-make-result : OneResult mode7-make-call.ended mode7-make.Post
+mode7-make-result κs a x y s t p q = one-answer p q
+
+pub mode7-make-content : OneContent mode7-make-call.ended mode7-make.Post (λ κs s. now (s .1 .1 .0))
+mode7-make-content κs a x y s t p q = one-content p q
+
+pub mode7-split-result : OneResult mode7-split-call.ended mode7-split.Post
+mode7-split-result κs a x y s t p q = one-answer (p .ofTiles) (q .ofTiles)
+
+pub mode7-split-tiles : OneContent mode7-split-call.ended mode7-split.Post (λ κs s. now (s .1 .0))
+mode7-split-tiles κs a x y s t p q = one-content (p .ofTiles) (q .ofTiles)
+
+pub mode7-split-map : OneContent mode7-split-call.ended mode7-split.Post (λ κs s. now (s .1 .1 .0))
+mode7-split-map κs a x y s t p q = one-content (p .ofMap) (q .ofMap)
 
 pub run-result : OneResult run-call.ended run.Post
 run-result κs a x y s t p q = p .answer ∙ sym (q .answer)

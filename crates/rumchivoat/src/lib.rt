@@ -31,6 +31,7 @@ ghost use Rattle.tileset.specs.Numbers.{nativeSays, firstCell, logicalSays, til
 ghost use Rattle.title.specs.Titles.{titleHeld, AddsToTitle};
 ghost use Rattle.picture.specs.Converting.{convertSays, Converts};
 ghost use Rattle.picture.specs.Redrawing.{redrawSays, drawn};
+ghost use Rattle.mode7.specs.Block.{makeSays, blockOf, splitSays, Splits};
 ghost use Rattle.strip.specs.Strips.{started, startSays, takeSays, Takes, stepped, endSays, ended};
 ghost use Rattle.sheet.specs.Program.{numberOf, textOf, Ran};
 ghost use Rattle.rumchivoat.specs.Station.{interface, roundingOf, entryFrom, settingsFrom};
@@ -40,7 +41,7 @@ ghost use Rattle.rumchivoat.specs.Station.{interface, roundingOf, entryF
 pub extern "C" fn rumchivoat_interface() -> u32
     ensures { λ r. ⌜ r ≡ interface ⌝ }
 {
-    6
+    7
 }
 
 // A native tile: pixels to the mode's bytes.
@@ -412,6 +413,22 @@ pub extern "C" fn rumchivoat_strip_end(run: Run) -> Picture
     ensures { λ r. ⌜ r ≡ ended (endSays run) run ⌝ }
 {
     strip::end(run)
+}
+
+// The mode 7 block, from tile bytes and map bytes.
+#[no_mangle]
+pub extern "C" fn rumchivoat_mode7_make(tiles: &[u8], map: &[u8], out: &mut [u8]) -> Written
+    ensures { λ r. ⌜ Wrote (makeSays (length (now (tiles .entry))) (length (now (map .entry))) (length (now (out .entry)))) (blockOf (now (tiles .entry)) (now (map .entry))) (now (out .entry)) r (now (out .exit)) ⌝ }
+{
+    mode7::make(tiles, map, out)
+}
+
+// And back: its two halves.
+#[no_mangle]
+pub extern "C" fn rumchivoat_mode7_split(block: &[u8], tiles: &mut [u8], map: &mut [u8]) -> Written
+    ensures { λ r. ⌜ Splits (splitSays (length (now (block .entry))) (length (now (tiles .entry))) (length (now (map .entry)))) (now (block .entry)) (now (tiles .entry)) (now (map .entry)) r (now (tiles .exit)) (now (map .exit)) ⌝ }
+{
+    mode7::split(block, tiles, map)
 }
 
 // The program on slices: all that it would write for an input.

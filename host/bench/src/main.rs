@@ -4,8 +4,10 @@
 //! one colour, entry or tile on either side, and the ratio: above 1 the port is the faster. Tiles are of each depth,
 //! sprites of the smallest and the largest size; of a set or a title, one add or one look-up; of a picture, one of its
 //! tiles. Three tables more have the port alone: `run` on the largest sheets beside `convert` on their pictures, a title's
-//! look-up beside the set's over as many tiles, and pictures in strips beside the same pictures at once.
+//! look-up beside the set's over as many tiles, and pictures in strips beside the same pictures at once. The last has the
+//! mode 7 block beside plain Rust loops, which are not the Rust's.
 
+mod mode7;
 mod pictures;
 mod sets;
 mod sheets;
@@ -74,6 +76,7 @@ fn main() {
     sheets::print_table(&mut random);
     sets::print_table(&mut random);
     pictures::print_table(&mut random);
+    mode7::print_table(&mut random);
 }
 
 fn print_line(line: &Measured) {

@@ -18,7 +18,7 @@ struct Run {
 }
 
 /// The runs that the page keeps: each a block of text that begins with its processor. The rows end where a line says the
-/// least ratio; what follows has no Rust in it.
+/// least ratio; what follows is no comparison with the unchanged Rust.
 fn runs(page: &str) -> Vec<Run> {
     let blocks = page.split("\n```\n").skip(1).step_by(2);
     blocks.filter_map(|block| run(block.trim_start_matches("```\n"))).collect()

@@ -7,6 +7,7 @@
 mod channel;
 mod colors;
 mod entries;
+mod mode7;
 mod modes;
 mod pictures;
 mod random;
@@ -19,6 +20,7 @@ mod titles;
 pub use channel::{reduce_channel, scale_up};
 pub use colors::{pack_colors, packed_length, unpack_colors, unpacked_count};
 pub use entries::{Entry, attribute, pack_entry, tile_index, unpack_entry};
+pub use mode7::{mode7_make, mode7_split};
 pub use modes::{MODES, Row, row};
 pub use pictures::{Picture, Settings, convert, cut_tiles, redraw};
 pub use random::Random;

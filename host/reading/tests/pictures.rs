@@ -99,3 +99,33 @@ fn converted_and_redrawn() {
         }
     }
 }
+
+/// A block begins with the bytes that the Rust puts by turns, and has 0 from there on; split, it gives what went in.
+fn same_block(columns: u32, rows: u32, tiles: &[u8], map: &[u8]) {
+    let mut due = pictures::mode7_interleaved(columns, rows, tiles, map).unwrap();
+    due.resize(32_768, 0);
+    let mut block = vec![0xa5; 32_768];
+    assert_eq!(reading::mode7_make(tiles, map, &mut block), Ok(32_768));
+    assert!(block == due, "{columns}x{rows}, {} tile bytes", tiles.len());
+
+    let (mut odd, mut even) = (vec![0xa5; 16_384], vec![0xa5; 16_384]);
+    assert_eq!(reading::mode7_split(&block, &mut odd, &mut even), Ok(16_384));
+    for (half, given) in [(odd, tiles), (even, map)] {
+        let (start, fill) = half.split_at(given.len());
+        assert!(start == given && fill.iter().all(|&byte| byte == 0), "{columns}x{rows}, {} tile bytes", tiles.len());
+    }
+}
+
+#[test]
+fn made_into_a_block() {
+    if superfamiconv::absent("the reading of mode 7 blocks against the Rust") {
+        return;
+    }
+    let mut random = Random::new(6);
+    for (columns, rows) in [(1, 1), (2, 1), (1, 2), (7, 5), (64, 64), (128, 1), (1, 128), (127, 128), (128, 128)] {
+        for tiles in [0, 1, 2, 100, 255, 256] {
+            let (tiles, map) = (random.bytes(64 * tiles), random.bytes((columns * rows) as usize));
+            same_block(columns, rows, &tiles, &map);
+        }
+    }
+}

@@ -143,6 +143,20 @@ fn refused_places_and_numbers_of_sets_are_empty() {
     }
 }
 
+#[test]
+fn refused_mode7_blocks_tell_no_length() {
+    let halves = [0, 1, 16_383, 16_384, 16_385, 32_768];
+    let input = vec![0x5a; 65_536];
+    for block in [0, 1, 16_384, 32_767, 32_768, 32_769, 65_536] {
+        for (tiles, map) in halves.iter().flat_map(|&tiles| halves.map(|map| (tiles, map))) {
+            let made = mode7_make(&input[..tiles], &input[..map], &mut vec![0xa5; block]);
+            assert!(made.is_bare_if_refused(), "{tiles} {map} {block} {made:?}");
+            let split = mode7_split(&input[..block], &mut vec![0xa5; tiles], &mut vec![0xa5; map]);
+            assert!(split.is_bare_if_refused(), "{block} {tiles} {map} {split:?}");
+        }
+    }
+}
+
 /// Numbers that are no refusal of document 01.
 const OTHER_NUMBERS: [u32; 4] = [15, 16, 255, u32::MAX];
 

@@ -40,6 +40,10 @@ pub fn redraw(_set: &Tileset, _settings: Settings, _map: &[u8]) -> Result<Vec<u8
     absent()
 }
 
+pub fn mode7_interleaved(_columns: u32, _rows: u32, _tiles: &[u8], _map: &[u8]) -> Result<Vec<u8>, String> {
+    absent()
+}
+
 pub fn convert_pixels(_settings: Settings, _pixels: &[u8]) -> (Vec<u8>, Vec<u8>) {
     absent()
 }

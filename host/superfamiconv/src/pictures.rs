@@ -127,6 +127,14 @@ pub fn redraw(set: &Tileset, settings: Settings, map: &[u8]) -> Result<Vec<u8>, 
     Ok(drawn.data.into_iter().map(pixel).collect())
 }
 
+/// `Map::get_snes_mode7_interleaved_data`, of a map of these bytes over a set of these tile bytes: a byte of the map and a
+/// byte of the tiles by turns, as many of each as the longer has.
+pub fn mode7_interleaved(columns: u32, rows: u32, tiles: &[u8], map: &[u8]) -> Result<Vec<u8>, String> {
+    let set = plain::from_native_data(Mode::SnesMode7, 8, 8, 8, false, tiles)?;
+    let map = Map::from_native_data(map, Mode::SnesMode7, columns, rows, 8, 8, 0, 0, false)?;
+    map.get_snes_mode7_interleaved_data(&set)
+}
+
 /// The pixels of each tile as an image, without colours.
 fn tile_images(settings: Settings, pixels: &[u8]) -> Vec<Image> {
     let line = 8 * settings.columns as usize;
