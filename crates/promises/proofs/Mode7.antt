@@ -18,7 +18,11 @@ use Rattle.picture.specs.declared.Settings.{Settings}
 use Rattle.picture.proofs.Checks.{asked-picture, convert-passed, room-named}
 use Rattle.picture.proofs.Converted.{stored-need, tile-bytes-length, map-bytes-length}
 
-module _ (z : Settings) (is-mode7 : z .mode ≡ 1) (pixels : List ℕ) (tileSpace mapSpace : ℕ) (done : convertSays z pixels tileSpace mapSpace ≡ 0) where
+-- the number of snes_mode7
+abbrev pub snes-mode7 : ℕ
+snes-mode7 = 1
+
+module _ (z : Settings) (is-mode7 : z .mode ≡ snes-mode7) (pixels : List ℕ) (tileSpace mapSpace : ℕ) (done : convertSays z pixels tileSpace mapSpace ≡ 0) where
   picture : IsPicture z (length pixels)
   picture = asked-picture z (length pixels) mapSpace (convert-passed z pixels tileSpace mapSpace done .0)
 
