@@ -1,5 +1,7 @@
 // Runs the program on cases. Each argument names a file of data/ with cases one after the other: a line that names the case, a line with its
 // length, its bytes and a newline. After a case's name stands what the program writes, and a newline.
+#![tactic(auto)]
+
 ghost use Rattle.std.specs.Prelude.{◌<◌, ◌≤◌, length};
 
 use libc::STDOUT_FILENO;

@@ -1,4 +1,6 @@
 // Colours: how each console packs them, and one channel of a colour.
+#![tactic(auto)]
+
 ghost use Rattle.std.specs.Prelude.{◌≡◌, ◌++◌, ◌+◌, ◌*◌, ◌-◌, ◌^◌, ◌<◌, ◌≤◌, length, drop};
 ghost use Rattle.std.proofs.lemmas.List.Edits.{sets};
 ghost use Rattle.words.specs.Answers.{numbered, Wrote, overwrite};
@@ -13,7 +15,7 @@ use words::{Number, Written, refusal};
 
 // How a mode's colours stand in its words: whether a word has grays, and four of them; its bytes, and whether the most stands first; the top
 // and the bits of a component; the places of r, g and b, or of the grays.
-#[derive(Drop)]
+#[derive(Clone, Copy)]
 pub struct ColorPlaces {
     pub gray: bool,
     pub four: bool,
@@ -363,7 +365,7 @@ pub fn unpack_colors(mode: u32, bytes: &[u8], out: &mut [u8]) -> Written
 }
 
 // How a channel of eight bits becomes a component.
-#[derive(Drop)]
+#[derive(Clone, Copy)]
 pub enum Rounding {
     Truncate,
     Nearest,

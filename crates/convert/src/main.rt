@@ -1,4 +1,6 @@
 // The program: reads a sheet and its pixels on standard input, and writes what they come to.
+#![tactic(auto)]
+
 use libc::{STDIN_FILENO, STDOUT_FILENO};
 
 fn main() {

@@ -1,4 +1,6 @@
 // The four flips of a tile, and whether one tile is another under a flip.
+#![tactic(auto)]
+
 ghost use Rattle.std.specs.Prelude.{◌≡◌, ◌+◌, ◌*◌, ◌<◌, ◌≤◌, take, drop};
 ghost use Rattle.words.specs.Bytes.{same};
 ghost use Rattle.flip.specs.Flips.{turned, flip_at, flipped};
@@ -6,14 +8,14 @@ ghost use Rattle.flip.specs.Matching.{match_flip};
 ghost use Rattle.flip.specs.Inner.{RowAs, Compares, ComparesRow, eight_from};
 
 // Which way a tile is turned: h reverses each row, v the order of rows.
-#[derive(Drop)]
+#[derive(Clone, Copy)]
 pub struct Flip {
     pub h: bool,
     pub v: bool,
 }
 
 // The flip under which one tile is another, or none.
-#[derive(Drop)]
+#[derive(Clone, Copy)]
 pub enum Match {
     Under(Flip),
     Never,

@@ -1,6 +1,8 @@
 // An index of 8x8 tiles: the first that matches a tile is found without comparing it with each. A tile's key, which no allowed flip
 // changes, names its bucket; the tiles of a bucket are chained from the last to the first. The tiles stay with the caller, who searches
 // a chain by `bucket`, `link` and `over`.
+#![tactic(auto)]
+
 ghost use Rattle.std.specs.Prelude.{◌≡◌, ◌+◌, ◌*◌, ◌%◌, ◌<◌, ◌≤◌, length, get_or};
 ghost use Rattle.flip.specs.Flips.{flipped};
 ghost use Rattle.tileset.specs.Finding.{found_or};

@@ -1,4 +1,6 @@
 // Map entries: the words that say which tile is drawn, with which palette and how.
+#![tactic(auto)]
+
 ghost use Rattle.std.specs.Prelude.{◌≡◌, ◌+◌, ◌<◌, ◌≤◌, length, take, drop};
 ghost use Rattle.std.proofs.lemmas.List.Edits.{sets};
 ghost use Rattle.words.specs.Answers.{numbered, Wrote};
@@ -10,7 +12,7 @@ use mode::{Mode, console};
 use words::{Number, Written, refusal};
 
 // "An entry is tile index, palette index (32 bits each), flip h, flip v, priority."
-#[derive(Drop)]
+#[derive(Clone, Copy)]
 pub struct Mapentry {
     pub tile: u32,
     pub palette: u32,
@@ -21,7 +23,7 @@ pub struct Mapentry {
 
 // What reading an entry answers.
 #[repr(C)]
-#[derive(Drop)]
+#[derive(Clone, Copy)]
 pub struct Entry {
     pub refusal: u32,
     pub tile: u32,
@@ -32,7 +34,7 @@ pub struct Entry {
 }
 
 // The first field of an entry that the mode's bits cannot hold.
-#[derive(Drop)]
+#[derive(Clone, Copy)]
 pub enum Misfit {
     Tile,
     Palette,
@@ -69,7 +71,7 @@ pub fn entry_says(mode: u32, e: Mapentry) -> u32
 
 // Where the values of an entry stand in its word: the tile index in the low bits, but for one bit that may stand apart, high; the
 // palette index with its bits; the flips; priority. What the mode has no bits for stands at 16, above every word.
-#[derive(Drop)]
+#[derive(Clone, Copy)]
 pub struct Places {
     pub low: u32,
     pub high: u32,

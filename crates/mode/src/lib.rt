@@ -1,4 +1,6 @@
 // The sixteen modes: document 01's table, and the modes' names.
+#![tactic(auto)]
+
 pub mod console;
 
 ghost use Rattle.std.specs.Prelude.{◌≡◌, ◌<◌, ◌≤◌, get_or};
@@ -51,11 +53,11 @@ pub const NAMES: [[u8; 10]; 16] = [
 pub const LENGTHS: [usize; 16] = [4, 10, 2, 3, 3, 10, 2, 3, 2, 3, 10, 3, 4, 2, 3, 10];
 
 // A mode by its number.
-#[derive(Drop)]
+#[derive(Clone, Copy)]
 pub struct Mode(pub u32);
 
 // How many bits each field of an entry has.
-#[derive(Drop)]
+#[derive(Clone, Copy)]
 pub struct EntryBits {
     pub tile: u32,
     pub palette: u32,
@@ -243,7 +245,7 @@ pub fn consoles() -> [Mode; 16]
 }
 
 // What a name is the name of.
-#[derive(Drop)]
+#[derive(Clone, Copy)]
 pub enum Named {
     Console(Mode),
     Nothing,

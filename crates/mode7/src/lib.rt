@@ -1,4 +1,6 @@
 // The mode 7 block: a 128x128 map and 256 tiles of 64 pixels, byte beside byte, as the console holds them.
+#![tactic(auto)]
+
 ghost use Rattle.std.specs.Prelude.{◌≡◌, [], ◌∷◌, ◌+◌, ◌*◌, ◌≤◌, length};
 ghost use Rattle.std.proofs.lemmas.List.Edits.{sets};
 ghost use Rattle.words.specs.Answers.{Wrote, overwrite};

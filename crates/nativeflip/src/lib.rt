@@ -1,4 +1,6 @@
 // Native tiles flipped straight on their bytes: a flipped tile's are the tile's own in another order, the pixels of each in another order.
+#![tactic(auto)]
+
 pub mod reversed;
 pub mod turns;
 

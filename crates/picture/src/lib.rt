@@ -1,4 +1,6 @@
 // Pictures: conversion into tiles and a map, and redrawing.
+#![tactic(auto)]
+
 pub mod stored;
 
 ghost use Rattle.std.specs.Prelude.{◌≡◌, false, ◌&&◌, [], ◌∷◌, ◌++◌, ◌+◌, ◌*◌, ◌%◌, ◌^◌, ◌<◌, ◌≤◌, leb, eqb, length, get_or};
@@ -24,7 +26,7 @@ use tileset::{Found, Logical, Native};
 use words::{Written, refusal};
 
 // What a picture is converted by. Its size is counted in tiles.
-#[derive(Drop)]
+#[derive(Clone, Copy)]
 pub struct Settings {
     pub mode: u32,
     pub depth: u32,
@@ -38,7 +40,7 @@ pub struct Settings {
 
 // What a conversion answers.
 #[repr(C)]
-#[derive(Drop)]
+#[derive(Clone, Copy)]
 pub struct Picture {
     pub refusal: u32,
     pub tiles: u32,
@@ -190,7 +192,7 @@ fn code(tile: Logical, f: Flip) -> u16
 }
 
 // What becomes of a tile: how many are kept then, and the code of its place; or there is no room.
-#[derive(Drop)]
+#[derive(Clone, Copy)]
 enum Taken {
     Kept(usize, u16),
     NoRoom,
@@ -262,7 +264,7 @@ fn keep_tile(
 }
 
 // How many tiles are kept; or there is no room for them.
-#[derive(Drop)]
+#[derive(Clone, Copy)]
 enum Gathered {
     Count(usize),
     NoRoom,

@@ -1,5 +1,7 @@
 // Replays a sample of the Rust's answers: each line of the list is a call, what it was given and what the Rust answered.
 // host/sample made the list and says what its lines are.
+#![tactic(auto)]
+
 ghost use Rattle.std.specs.Prelude.{◌+◌, ◌^◌, ◌<◌, ◌≤◌, length};
 ghost use Rattle.replay.specs.Inner.{Inside, list_space};
 
@@ -16,7 +18,7 @@ const NOISE: u8 = 0xa5;
 const LIST_SPACE: usize = 262144;
 
 // The bytes of a line from one place up to another.
-#[derive(Drop)]
+#[derive(Clone, Copy)]
 struct Span {
     pub from: usize,
     pub to: usize,
@@ -284,7 +286,7 @@ fn found(r: Place, place: u8, flip: u8) -> bool {
 }
 
 // A run so far, and whether it is the Rust's.
-#[derive(Drop)]
+#[derive(Clone, Copy)]
 struct Run {
     pub agrees: bool,
     pub set: Set,
@@ -536,7 +538,7 @@ fn line_end(s: &[u8], at: usize) -> usize
 }
 
 // The lines of a kind, and how many of them do not agree.
-#[derive(Drop)]
+#[derive(Clone, Copy)]
 struct Tally {
     pub lines: usize,
     pub different: usize,

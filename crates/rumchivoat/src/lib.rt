@@ -1,4 +1,6 @@
 // The station's interface: what a host calls, with plain numbers and byte slices. Each function asks nothing of its caller.
+#![tactic(auto)]
+
 ghost use Rattle.std.specs.Prelude.{◌≡◌, length};
 ghost use Rattle.words.specs.Answers.{numbered, Wrote};
 ghost use Rattle.mode.specs.Table.{row};

@@ -1,4 +1,6 @@
 // The program on slices: reads a sheet of settings with a picture's pixels, and writes the report.
+#![tactic(auto)]
+
 mod keys;
 
 ghost use Rattle.std.specs.Prelude.{◌≡◌, ◌++◌, ◌+◌, ◌≤◌, ◌<◌, length};
@@ -40,7 +42,7 @@ const LARGEST: u32 = 4294967295;
 const SIDE_MOST: u32 = 32;
 
 // A line of a sheet: its key, and the largest number that it tells. The text of the mode's line is a name.
-#[derive(Drop)]
+#[derive(Clone, Copy)]
 struct Line(usize, u32);
 
 const LINE_COUNT: usize = 8;
@@ -88,21 +90,21 @@ pub const INPUT_SPACE: usize = 65642;
 pub const OUT_SPACE: usize = 67840;
 
 // What a text tells.
-#[derive(Drop)]
+#[derive(Clone, Copy)]
 pub enum Told {
     Value(u32),
     Nothing,
 }
 
 // What an input holds: the settings and where the pixels start, or no such thing.
-#[derive(Drop)]
+#[derive(Clone, Copy)]
 pub enum Sheet {
     Read(Settings, usize),
     Wrong,
 }
 
 // A text of ten bytes at most: those of an array from one place up to another.
-#[derive(Drop)]
+#[derive(Clone, Copy)]
 struct Text {
     pub bytes: [u8; TEXT_MOST],
     pub from: usize,

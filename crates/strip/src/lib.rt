@@ -1,4 +1,6 @@
 // Pictures that come in strips: a run starts with the settings, takes strips of whole tile rows, and ends when all rows have come.
+#![tactic(auto)]
+
 ghost use Rattle.std.specs.Prelude.{◌≡◌, length};
 ghost use Rattle.strip.specs.Strips.{settings_of, rows_of, run_at, no_run, started, start_says, take_says, Takes, end_says, ended};
 ghost use Rattle.strip.specs.Inner.{settings_says, HasRows, length_says, strip_says, counts_more};
@@ -9,7 +11,7 @@ use words::refusal;
 
 // A run: the settings of its picture, the tile rows that have come, and the tiles stored and discarded so far. A caller keeps it between strips.
 #[repr(C)]
-#[derive(Drop)]
+#[derive(Clone, Copy)]
 pub struct Run {
     pub mode: u32,
     pub depth: u32,
@@ -26,14 +28,14 @@ pub struct Run {
 
 // What a start answers.
 #[repr(C)]
-#[derive(Drop)]
+#[derive(Clone, Copy)]
 pub struct RunAnswer {
     pub refusal: u32,
     pub run: Run,
 }
 
 // What a strip answers, and the run after it.
-#[derive(Drop)]
+#[derive(Clone, Copy)]
 pub struct Step {
     pub picture: Picture,
     pub run: Run,

@@ -1,4 +1,6 @@
 // Native tiles: how each mode's pixels stand in bytes.
+#![tactic(auto)]
+
 pub mod calls;
 pub mod chunky;
 pub mod eights;
@@ -12,7 +14,7 @@ pub use layouts::{byte_count, packing_of, pixel_count};
 pub use tiles::{put_pixels, put_tile};
 
 // How the bits of a tile's pixels stand in its bytes.
-#[derive(Drop)]
+#[derive(Clone, Copy)]
 pub enum Packing {
     // Planes in groups: a byte of each plane of the group for each row.
     Planar { group: usize, depth: usize },

@@ -1,4 +1,6 @@
 // Tile sets: looking tiles up, adding them, writing and reading them, and the two kinds of tile number.
+#![tactic(auto)]
+
 pub mod adding;
 pub mod finding;
 pub mod numbers;
@@ -16,7 +18,7 @@ pub use writing::write;
 
 // A set: its settings, and how many tiles it stores and has discarded. Its tiles live in a lent store, a byte a pixel.
 #[repr(C)]
-#[derive(Drop)]
+#[derive(Clone, Copy)]
 pub struct Set {
     pub mode: u32,
     pub depth: u32,
@@ -30,21 +32,21 @@ pub struct Set {
 }
 
 #[repr(C)]
-#[derive(Drop)]
+#[derive(Clone, Copy)]
 pub struct SetAnswer {
     pub refusal: u32,
     pub set: Set,
 }
 
 // What a look-up finds: a place, which is a logical number, with its flip; or nothing.
-#[derive(Drop)]
+#[derive(Clone, Copy)]
 pub enum Found {
     At(Logical, Flip),
     Nothing,
 }
 
 #[repr(C)]
-#[derive(Drop)]
+#[derive(Clone, Copy)]
 pub struct Place {
     pub refusal: u32,
     pub found: bool,
@@ -54,19 +56,19 @@ pub struct Place {
 }
 
 // Native numbers count 8x8 cells, logical numbers count whole tiles.
-#[derive(Drop)]
+#[derive(Clone, Copy)]
 pub struct Native(pub u32);
 
-#[derive(Drop)]
+#[derive(Clone, Copy)]
 pub struct Logical(pub u32);
 
-#[derive(Drop)]
+#[derive(Clone, Copy)]
 pub struct NativeAnswer {
     pub refusal: u32,
     pub number: Native,
 }
 
-#[derive(Drop)]
+#[derive(Clone, Copy)]
 pub struct LogicalAnswer {
     pub refusal: u32,
     pub number: Logical,

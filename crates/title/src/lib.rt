@@ -1,4 +1,6 @@
 // Titles: a set of one's own, and a common store of tiles that is only read.
+#![tactic(auto)]
+
 pub mod adding;
 pub mod looking;
 
@@ -7,7 +9,7 @@ pub use looking::look_up;
 
 // What a title's look-up answers: a set's answer, and the part of the common or the own store that the tile has.
 #[repr(C)]
-#[derive(Drop)]
+#[derive(Clone, Copy)]
 pub struct Held {
     pub refusal: u32,
     pub found: bool,

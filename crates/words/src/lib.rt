@@ -1,4 +1,6 @@
 // The ground floor: numbers as bits, words as bytes, and the answers of a call. Nothing of consoles.
+#![tactic(auto)]
+
 pub mod refusal;
 
 ghost use Rattle.std.specs.Prelude.{◌≡◌, ◌+◌, ◌*◌, ◌/◌, ◌%◌, ◌^◌, ◌<◌, ◌≤◌, min, ltb, length, take, drop};
@@ -9,7 +11,7 @@ ghost use Rattle.words.specs.Inner.{word_at, eight, byte_in, bytes_in};
 
 // What a call that writes bytes answers: document 01's number, and how many bytes it wrote.
 #[repr(C)]
-#[derive(Drop)]
+#[derive(Clone, Copy)]
 pub struct Written {
     pub refusal: u32,
     pub written: usize,
@@ -17,7 +19,7 @@ pub struct Written {
 
 // What a call that computes one number answers.
 #[repr(C)]
-#[derive(Drop)]
+#[derive(Clone, Copy)]
 pub struct Number {
     pub refusal: u32,
     pub value: u32,
