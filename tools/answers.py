@@ -84,6 +84,7 @@ class Function:
         self.said = said
         self.parent = {}
         self.step = {}
+        self.to = {}
         self.params = {}
         self.place_new = {}
         self.typed = {}
@@ -93,8 +94,7 @@ class Function:
             self.place_new.setdefault(norm(old), by)
             if so:
                 k = norm(so)
-                if k in self.step and self.step[k] != sn:
-                    self.said(f"two names for the step {so}: {self.step[k]} and {sn}")
+                self.to.setdefault(norm(old), (k, sn))
                 self.step.setdefault(k, sn)
                 if fn:
                     self.params[k] = names["params"].get(fn, [])
@@ -118,6 +118,7 @@ class Function:
         """Projections as they are written today; a step by its new name."""
         p = list(projections)
         while p and p[0] == "before":
+            place = self.parent.get(place)
             p.pop(0)
         if not p:
             return []
@@ -132,6 +133,12 @@ class Function:
             if rest and rest[0] == "given" and k in self.typed and k.startswith(("shared-slice-known", "slice-known", "struct-known", "known")):
                 return ["type_inv", self.typed[k]] + rest[1:]
             new = self.step[k]
+            q = place
+            while q:
+                if self.to.get(q, ("",))[0] == k:
+                    new = self.to[q][1]
+                    break
+                q = self.parent.get(q)
             rest = list(rest)
             if rest and rest[0] in FIELDS:
                 rest[0] = FIELDS[rest[0]]
@@ -457,6 +464,7 @@ def convert(path, key, names, module, crate, said):
     rest = "\n".join(lines[i:])
     mod = None
     spec = None
+    spec_unf = []
     expanded = []
     for comment, ls in blocks(rest):
         if ls[0].startswith("module _"):
@@ -496,6 +504,7 @@ def convert(path, key, names, module, crate, said):
         clauses = "\n".join(ls[k:])
         if name.endswith("-spec") or name.endswith("_spec"):
             spec = clauses
+            spec_unf = unf
             continue
         decls.append(dict(comment=comment, name=name, abbrev=bool(g.group(1)), sig=sig, clauses=clauses, unf=unf, mod=m))
     # the order of the needs
@@ -585,7 +594,9 @@ def convert(path, key, names, module, crate, said):
             siblings[d["mod"]].append(d["name"])
 
     def emit(comment, name, sig, args_, body, unf):
-        b = body.strip("\n")
+        # the two tests of a `!x` say today what `x` is
+        b = re.sub(r"\(not-(?:true|false) (?:[^\s()]+|\([^()]*\)) ([^\s()]+)\)", r"\1", body.strip("\n"))
+        b = re.sub(r"(?<![\w-])not-(?:true|false) (?:[^\s()]+|\([^()]*\)) ([^\s()]+)", r"\1", b)
         lines_ = list(comment)
         lines_.append(f"{name} : {sig}")
         lines_ += unf
@@ -641,7 +652,7 @@ def convert(path, key, names, module, crate, said):
                 if a:
                     env[a[0]] = ("place", at)
                 t = tn.turn(parse(body), env)
-                result.append(emit(d["comment"], f"pub {new}", f"goal.{new}", [a[0]] if a else ["c"], t, d["unf"]))
+                result.append(emit(d["comment"], f"pub {new}", f"goal.{new}", [a[0]] if a else ["c"], t, d["unf"] or spec_unf))
             tn.goal = None
             continue
         h = fn.helpers[name]
@@ -679,7 +690,7 @@ def convert(path, key, names, module, crate, said):
         tn.goal = new
         t = tn.turn(parse(body), env)
         tn.goal = None
-        result.append(emit([], f"pub {new}", f"goal.{new}", [var], t, []))
+        result.append(emit([], f"pub {new}", f"goal.{new}", [var], t, spec_unf))
     folder = os.path.dirname(path)
 
     def with_uses(body, last, extra):

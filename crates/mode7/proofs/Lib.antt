@@ -1,3 +1,4 @@
 pub mod Says
 pub mod Lowest
 pub mod Laws
+pub mod Pairs
