@@ -22,6 +22,9 @@ def norm(name):
     return name.replace("_", "-").replace("line-at-lem", "line-at").lower()
 
 
+OPERATOR = re.compile(r"^(?:[^\w]+|in|let|rw|simp|at|omega|cc|grind|search|.*\.)$")
+
+
 class Node:
     """An atom with its projections, a group with its children and projections, or space and separators."""
 
@@ -88,6 +91,10 @@ class Function:
         self.params = {}
         self.place_new = {}
         self.typed = {}
+        self.arms = {}
+        for p, arm in zip(names["places"], names["arms"]):
+            if arm:
+                self.arms.setdefault(norm(p[0]), (arm[0], arm[2]))
         for p, by, typed in zip(names["places"], names["places_by_name"], names["typed"]):
             old, up, (so, sn), fn, _ = p
             self.parent.setdefault(norm(old), norm(up) if up else None)
@@ -113,6 +120,14 @@ class Function:
             place = self.parent.get(place)
         return place
 
+    def changed_of(self, k):
+        """The variables whose lengths a step keeps, in their order: of a call, its parameters that are lent to be changed; unknown here, its last."""
+        ps = self.params.get(k, [])
+        for (lo, _), vs in [(x[0], x[1]) for x in self.loops]:
+            if norm(lo) == k:
+                return []
+        return ["out"] if "out" in ps else ps[-1:]
+
     # what follows a place: its projections after the `before`s
     def path(self, place, projections):
         """Projections as they are written today; a step by its new name."""
@@ -127,9 +142,20 @@ class Function:
         k = norm(head)
         if head in FIELDS and k not in self.step:
             return [FIELDS[head]] + rest
+        if k in ("well-formed", "good"):
+            return ["well_formed"] + rest
         if k in ("args", "requires", "ranges", "lifetimes", "type-inv"):
             return [head] + rest
         if k in self.step:
+            q = place
+            while q:
+                best = None
+                for field, st, way in self.arms.get(q, ("", []))[1]:
+                    if norm(st) == k and rest[:len(way)] == way and (best is None or len(way) > len(best[1])):
+                        best = (field, way)
+                if best:
+                    return [self.arms[q][0], best[0]] + rest[len(best[1]):]
+                q = self.parent.get(q)
             if rest and rest[0] == "given" and k in self.typed and k.startswith(("shared-slice-known", "slice-known", "struct-known", "known")):
                 return ["type_inv", self.typed[k]] + rest[1:]
             new = self.step[k]
@@ -140,8 +166,15 @@ class Function:
                     break
                 q = self.parent.get(q)
             rest = list(rest)
-            if rest and rest[0] in FIELDS:
+            if rest and rest[0] in FIELDS and rest[0] not in ("fits", "pre"):
                 rest[0] = FIELDS[rest[0]]
+            if len(rest) > 1 and rest[0] == "auto" and rest[1].isdigit():
+                changed = self.changed_of(k)
+                n = 1
+                while n < len(rest) and rest[n] in ("0", "1"):
+                    n += 1
+                if changed:
+                    rest = ["auto", changed[0]] + rest[n:]
             if rest and rest[0] == "new" and len(rest) > 1 and re.fullmatch(r"[01]", rest[1]):
                 i = 1
                 n = 0
@@ -164,6 +197,7 @@ class Turner:
         self.fn, self.said = fn, said
         self.goal = None
         self.depth = 0
+        self.lets = {}
 
     # env: name -> ("place", old place) or ("text", text)
     def place_of(self, nodes, env):
@@ -176,6 +210,8 @@ class Turner:
             if first.kind == "atom":
                 parts = first.text.split(".")
                 e = env.get(parts[0])
+                if e and e[0] == "self" and self.fn.helpers[parts[0]]["place"]:
+                    e = ("place", self.fn.helpers[parts[0]]["place"])
                 if not e or e[0] != "place":
                     return None
                 proj = parts[1:]
@@ -248,6 +284,12 @@ class Turner:
                     k += 1
                 if nodes[j].kind == "atom" and eq is not None and end is not None:
                     p = self.place_of(nodes[eq + 1:end], env)
+                    if p is not None and p[1] and p[1][-1] == "given":
+                        env[name] = ("path", p[0], p[1])
+                        i = end + 1
+                        while i < n and nodes[i].kind == "space":
+                            i += 1
+                        continue
                     if p is not None and not p[1]:
                         env[name] = ("place", p[0])
                         i = end + 1
@@ -284,7 +326,9 @@ class Turner:
                     j += 1
                 for t in nodes[i:j + 1]:
                     if t.kind == "group":
-                        out.append(t.text + self.turn(t.kids, env) + CLOSE[OPEN.index(t.text)] + t.proj)
+                        colon = [x for x, y in enumerate(t.kids) if y.kind == "atom" and y.text == ":"]
+                        k = colon[0] if colon else len(t.kids)
+                        out.append(t.text + show(t.kids[:k]) + self.turn(t.kids[k:], env) + CLOSE[OPEN.index(t.text)] + t.proj)
                     else:
                         out.append(t.text)
                 for b in bound:
@@ -307,12 +351,23 @@ class Turner:
                             proj = proj[1:]
                         out.append(self.seen(at, proj, env))
                     else:
-                        out.append(self.used(parts[0], h, env["*at"] if not h["at"] else h["at"], env, parts[1:]))
+                        acts, i2 = self.actuals(h, nodes, i + 1, env) if len(parts) == 1 else ([], i + 1)
+                        u = self.used(parts[0], h, env["*at"] if not h["at"] else h["at"], env, parts[1:], acts)
+                        i = i2 - 1
+                        before = [x for x in nodes[:i] if x.kind != "space"]
+                        last = before[-1] if before else None
+                        if " " in u and not matched(u) and last is not None and (last.kind == "group" or last.kind == "atom" and not OPERATOR.match(last.text)):
+                            u = "(" + u + ")"
+                        out.append(u)
                     i += 1
                     continue
                 if e and e[0] == "place":
                     at, proj = self.place_of([node], env)
                     out.append(self.seen(at, proj, env))
+                    i += 1
+                    continue
+                if e and e[0] == "path":
+                    out.append(self.seen(e[1], e[2] + parts[1:], env))
                     i += 1
                     continue
                 if e and e[0] == "text":
@@ -329,9 +384,11 @@ class Turner:
                         if p is not None and not p[1]:
                             if h["place"]:
                                 out.append(self.seen(h["place"], [], env))
+                                i = j + 1
                             else:
-                                out.append(self.used(parts[0], h, p[0], env, []))
-                            i = j + 1
+                                acts, i2 = self.actuals(h, nodes, j + 1, env)
+                                out.append(self.used(parts[0], h, p[0], env, [], acts))
+                                i = i2
                             continue
                 # a tuple's field of a call record
                 out.append(node.text)
@@ -357,7 +414,11 @@ class Turner:
                             out.append("(" + t + ")" + node.proj)
                         i += 1
                         continue
-            out.append(node.text + self.turn(node.kids, env) + CLOSE[OPEN.index(node.text)] + node.proj)
+            inner = self.turn(node.kids, env)
+            if node.text == "(" and inner.startswith("(") and matched(inner) and len([x for x in node.kids if x.kind not in ("space",)]) <= 2:
+                out.append(inner + node.proj)
+            else:
+                out.append(node.text + inner + CLOSE[OPEN.index(node.text)] + node.proj)
             i += 1
         return "".join(out)
 
@@ -368,13 +429,43 @@ class Turner:
             pass
         return ".".join([self.base(env)] + self.fn.path(at, proj))
 
-    def used(self, name, h, at, env, proj):
+    def actuals(self, h, nodes, i, env):
+        """The arguments after a place that a short value takes: their texts, and where they end."""
+        if not (h["value"] and h["args"] and len(h["body"]) < 70):
+            return [], i
+        got = []
+        j = i
+        while len(got) < len(h["args"]):
+            while j < len(nodes) and nodes[j].kind == "space":
+                j += 1
+            if j >= len(nodes) or nodes[j].kind == "sep" or nodes[j].kind == "atom" and OPERATOR.match(nodes[j].text):
+                return [], i
+            got.append(self.turn([nodes[j]], env))
+            j += 1
+        return got, j
+
+    def used(self, name, h, at, env, proj, actuals=()):
         """A helper at a place: its name and the place, or its body where it is short or where no place can be given."""
         tail = "".join("." + x for x in proj)
         body = h["body"]
         inline = h["value"] and len(body) < 70
-        if not inline and self.goal is None and h["at"] != env["*at"]:
-            inline = True
+        if not inline and self.goal is None and h["at"] != env["*at"] and env["*at"] is not None:
+            if h["value"]:
+                inline = True
+            else:
+                if name not in self.lets:
+                    self.lets[name] = None
+                    e2 = {"*": self.base(env), "*at": env["*at"]}
+                    for s in h["siblings"]:
+                        e2[s] = ("self", None)
+                    e2[h["var"]] = ("place", h["at"])
+                    ty = self.turn(parse(h["ty"]), e2).strip()
+                    b = self.turn(parse(body), e2).strip()
+                    if h["args"]:
+                        b = "λ " + " ".join(h["args"]) + ". " + b
+                    del self.lets[name]
+                    self.lets[name] = (ty, b)
+                return name + tail if not tail else f"{name}{tail}"
         if inline:
             self.depth += 1
             if self.depth > 8:
@@ -383,8 +474,10 @@ class Turner:
             for s in h["siblings"]:
                 e2[s] = ("self", None)
             e2[h["var"]] = ("place", h["at"])
+            for x, y in zip(h["args"], actuals):
+                e2[x] = ("text", y if re.fullmatch(r"\S+", y) or matched(y) else f"({y})")
             t = self.turn(parse(h["body"]), e2)
-            if h["args"]:
+            if h["args"] and not actuals:
                 t = "(λ " + " ".join(h["args"]) + ". " + t + ")"
             self.depth -= 1
             t = t.strip()
@@ -450,7 +543,8 @@ SIG = re.compile(r"^(abbrev )?(pub )?([^\s:()]+) : (.*)$", re.S)
 
 
 def convert(path, key, names, module, crate, said):
-    text = open(path, encoding="utf-8").read()
+    # the kit took a field of `Chunky` for the ranges of a place
+    text = open(path, encoding="utf-8").read().replace("(size s).ranges", "(size s).fits")
     fn = Function(names, said)
     tn = Turner(fn, said)
     head = []
@@ -577,6 +671,8 @@ def convert(path, key, names, module, crate, said):
         else:
             m = re.match(r"\((\S+) : tie\.([^)\s]+)[^)]*\) → ", sig) or re.match(r"()tie\.(\S+)(?: invariant-\S+ decreases-\S+)* → ", sig)
             if not m:
+                m = re.match(r"\((\S+) : tie\.([^)\s]+)[^)]*\) (?=\()", sig)
+            if not m:
                 d["plain"] = True
                 continue
             at = norm(m.group(2))
@@ -596,6 +692,7 @@ def convert(path, key, names, module, crate, said):
     def emit(comment, name, sig, args_, body, unf):
         # the two tests of a `!x` say today what `x` is
         b = re.sub(r"\(not-(?:true|false) (?:[^\s()]+|\([^()]*\)) ([^\s()]+)\)", r"\1", body.strip("\n"))
+        b = re.sub(r"\(omega \(arith, passed \d+ \S+ c\.in_default\.\S+\)\)", "(omega arith)", b)
         b = re.sub(r"(?<![\w-])not-(?:true|false) (?:[^\s()]+|\([^()]*\)) ([^\s()]+)", r"\1", b)
         lines_ = list(comment)
         lines_.append(f"{name} : {sig}")
@@ -672,9 +769,16 @@ def convert(path, key, names, module, crate, said):
             place = h["at"]
         tn.alone = False
         ty = tn.turn(parse(h["ty"]), env)
+        tn.lets = {}
         t = tn.turn(parse(h["body"]), env)
+        if tn.lets:
+            flat = lambda s: re.sub(r"\s*\n\s*", " ", s)
+            t = "\n".join("    let " + k + " : " + flat(v[0]) + " =\n        " + v[1] + " in" for k, v in tn.lets.items()) + "\n    " + t.strip()
+        tn.lets = {}
         places_used.add(place)
-        result.append(emit(d["comment"], ("abbrev " if d["abbrev"] else "") + name, f"({var} : {place}) → {ty}", [var] + h["args"], t, d["unf"]).replace(f"\nabbrev {name} {var}", f"\n{name} {var}"))
+        more = d["mod"] is None and re.match(r"\(\S+ : tie\.[^)]*\) \(", d["sig"])
+        arrow = "" if more else "→ "
+        result.append(emit(d["comment"], ("abbrev " if d["abbrev"] else "") + name, f"({var} : {place}) {arrow}{ty}", [var] + h["args"], t, d["unf"]).replace(f"\nabbrev {name} {var}", f"\n{name} {var}"))
     for new, at, a in inline:
         kids = a.kids
         s = show(kids)
@@ -720,6 +824,18 @@ def convert(path, key, names, module, crate, said):
             keep.append(f"use Rattle.{crate}.proofs.{module}.Goals.{{{', '.join(sorted(extra))}}}")
         return "\n".join(keep)
 
+    # what an invariant speaks of stands beside it
+    shared = []
+    if invariants:
+        said_by = "\n".join(invariants)
+        for d in decls:
+            if d.get("plain") and re.search(r"(?<![\w.-])" + re.escape(d["name"]) + r"(?![\w-])", said_by):
+                shared.append(d["name"])
+                k = next(i for i, r in enumerate(result) if re.search(r"(?m)^(abbrev )?" + re.escape(d["name"]) + " :", r))
+                r = result.pop(k)
+                r = re.sub(r"(?m)^abbrev " + re.escape(d["name"]) + " :", f"abbrev pub {d['name']} :", r)
+                r = re.sub(r"(?m)^" + re.escape(d["name"]) + " :", f"pub {d['name']} :", r)
+                invariants.insert(len(shared) - 1, r)
     used_places = {p for p in places_used}
     wrote = []
     if invariants:
@@ -730,7 +846,8 @@ def convert(path, key, names, module, crate, said):
     if result:
         body = "\n\n".join(r for r in result)
         h = head if not invariants else []
-        out = "\n".join(h + [with_uses(body, f"use Rattle.{crate}.proofs.{module}.Goals as goal", used_places), "", body, ""])
+        own = [f"use Rattle.{crate}.proofs.{module}.Invariants.{{{', '.join(shared)}}}"] if shared and any(s in body for s in shared) else []
+        out = "\n".join(h + own + [with_uses(body, f"use Rattle.{crate}.proofs.{module}.Goals as goal", used_places), "", body, ""])
         open(os.path.join(folder, "Answers.antt"), "w", encoding="utf-8").write(out)
         wrote.append("Answers")
     os.remove(path)

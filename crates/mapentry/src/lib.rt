@@ -262,6 +262,7 @@ fn read_entry(m: Mode, bytes: &[u8]) -> Entry
 }
 
 // Unpacks a map entry. Each arm names its mode, so that its places are numbers when it is compiled.
+#[tactic(auto, unfolding(mode::specs::Table::row))]
 pub fn unpack_mapentry(mode: u32, bytes: &[u8]) -> Entry
     ensures { result ≡ entered (read_says mode (length bytes.now)) (entry_of mode bytes.now) }
 {

@@ -81,13 +81,13 @@ is-chunky HighFirst o = tt
 is-chunky Plain o = absurd (miss (1 ∷ 2 ∷ 3 ∷ []) 4 tt o)
 is-chunky (Sprite w h) o = absurd (miss (1 ∷ 2 ∷ 3 ∷ []) 5 tt o)
 
-pub is-high-first : (p : Packing) → T (is_chunky p) → OneOf (0 ∷ 3 ∷ 4 ∷ 5 ∷ []) (tag_of the_type p) → p ≡ HighFirst
-is-high-first (Planar g d) t o = absurd t
-is-high-first Ngp t o = absurd (miss (0 ∷ 3 ∷ 4 ∷ 5 ∷ []) 1 tt o)
-is-high-first LowFirst t o = absurd (miss (0 ∷ 3 ∷ 4 ∷ 5 ∷ []) 2 tt o)
-is-high-first HighFirst t o = refl
-is-high-first Plain t o = absurd t
-is-high-first (Sprite w h) t o = absurd t
+pub is-high-first : (p : Packing) → T (is_chunky p) → (p ≡ Ngp → ⊥) → (p ≡ LowFirst → ⊥) → p ≡ HighFirst
+is-high-first (Planar g d) t n l = absurd t
+is-high-first Ngp t n l = absurd (n refl)
+is-high-first LowFirst t n l = absurd (l refl)
+is-high-first HighFirst t n l = refl
+is-high-first Plain t n l = absurd t
+is-high-first (Sprite w h) t n l = absurd t
 
 -- ---- planes
 
