@@ -336,6 +336,12 @@ class Turner:
                         env.pop(b, None)
                 i = j + 1
                 continue
+            # the name of a record's field
+            ahead = [x for x in nodes[i + 1:i + 3] if x.kind != "space"]
+            if node.kind == "atom" and "." not in node.text and ahead and ahead[0].kind == "atom" and ahead[0].text == "=":
+                out.append(node.text)
+                i += 1
+                continue
             # a helper and its place
             if node.kind == "atom":
                 parts = node.text.split(".")

@@ -124,9 +124,9 @@ fields-of-2 : T (fields_are 2 (pairs (nibbles (given 0))))
 unfolding fields_are is_side is_wired_in trade origin pick merge is_from suits
 fields-of-2 = tt
 
-fields_back : (n : ℕ) (wire : Wire) → T (fields_are n wire) → T (within (parts_back n)) → (w r : ℕ) → w < 2 ^ 64 → r ≡ value (λ i. get_or (w ∷ []) i 0) wire → FieldsBack n w r
+fields_back_lem : (n : ℕ) (wire : Wire) → T (fields_are n wire) → T (within (parts_back n)) → (w r : ℕ) → w < 2 ^ 64 → r ≡ value (λ i. get_or (w ∷ []) i 0) wire → FieldsBack n w r
 unfolding fields_are
-fields_back n wire is inside w r l e = wired-byte (λ m. m) (parts_back n) wire is tt inside w r l e
+fields_back_lem n wire is inside w r l e = wired-byte (λ m. m) (parts_back n) wire is tt inside w r l e
 
 -- ---- by the bytes of a row
 
@@ -164,10 +164,10 @@ module _ (w : ℕ) (l : w < 2 ^ 64) where
   rows-1 {r = r} h d b = rows_back 1 (bytes (doubles (halves (given 0)))) rows-of-1 tt w r l (next e low_bytes 8 (doubles (halves (given 0))) (of-doubles h d) b)
 
   pub fields-4 : {r : ℕ} → r ≡ exchanged low_nibbles 4 w → FieldsBack 4 w r
-  fields-4 {r} n = fields_back 4 (nibbles (given 0)) fields-of-4 tt w r l (of-nibbles n)
+  fields-4 {r} n = fields_back_lem 4 (nibbles (given 0)) fields-of-4 tt w r l (of-nibbles n)
 
   pub fields-2 : {a r : ℕ} → a ≡ exchanged low_nibbles 4 w → r ≡ exchanged low_pairs 2 a → FieldsBack 2 w r
-  fields-2 {r = r} n p = fields_back 2 (pairs (nibbles (given 0))) fields-of-2 tt w r l (next e low_pairs 2 (nibbles (given 0)) (of-nibbles n) p)
+  fields-2 {r = r} n p = fields_back_lem 2 (pairs (nibbles (given 0))) fields-of-2 tt w r l (next e low_pairs 2 (nibbles (given 0)) (of-nibbles n) p)
 
 -- a row that is none of the others
 pub last_row : (n : ℕ) → T (is_row n) → (n ≡ 8 → ⊥) → (n ≡ 4 → ⊥) → (n ≡ 2 → ⊥) → n ≡ 1

@@ -91,15 +91,15 @@ module _ {n limit : ℕ} where
   pub room_of : {most : ℕ} (bounds : List ℕ) → InRoom n limit most bounds → n ≤ room_under limit most bounds
   unfolding room_under
   room_of [] h = to_room (eqb limit 0) refl h.first h.limited
-  room_of (bound ∷ bounds) h =
-      room_of bounds (record { first = omega (arith, h.first, h.others.0); others = h.others.1; limited = h.limited })
+  room_of {most = most} (bound ∷ bounds) h =
+      room_of {most = min most bound} bounds (record { first = omega (arith, h.first, h.others.0); others = h.others.1; limited = h.limited })
 
   -- and what is at most the room is at most each of them
   pub in-room : {most : ℕ} (bounds : List ℕ) → n ≤ room_under limit most bounds → InRoom n limit most bounds
   unfolding room_under
   in-room [] h = from-room (eqb limit 0) refl h
-  in-room (bound ∷ bounds) h =
-      let r = in-room bounds h in
+  in-room {most = most} (bound ∷ bounds) h =
+      let r = in-room {most = min most bound} bounds h in
       record { first = omega (arith, r.first); others = (omega (arith, r.first), r.others); limited = r.limited }
 
 -- the room is at most each of its bounds, and at most the limit if it is not 0
