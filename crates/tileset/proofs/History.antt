@@ -155,7 +155,8 @@ module _ (z : Set) where
   -- the one induction
   pub after-calls : {t : Since} {x : Set} {s : List ℕ} → Stands [] z t x s → (cs : List Call) → Calls x s cs → Stands [] z (since_calls z t cs) (last_set x cs) (last_store s cs)
   after-calls st [] k = st
-  after-calls st (c ∷ cs) k = after-calls (after_call st c k.0) cs k.1
+  after-calls {t = t} {x = x} {s = s} st (c ∷ cs) k =
+      after-calls {t = since_call z t c} {x = set_after x c} {s = store_after s c} (after_call st c k.0) cs k.1
 
   -- the tiles at the start are still those, or none after a reset
   one-first : (P : List (List ℕ) → Type 0) → P [] → (t : Since) (c : Call) → P t.tiles → P (since_call z t c).tiles

@@ -26,27 +26,27 @@ tiled c = record { mode = (sound c).mode; depth = (sound c).depth; size = c.requ
 bytes-are : (c : After-byte_count-size) → c.byte_count-size.result ≡ (tile_size c.args.set.depth c.args.set.width c.args.set.height)
 bytes-are c =
     let sound : IsSet c.args.set.mode c.args.set.depth c.args.set.width c.args.set.height =
-        set-of _ _ _ _ c.requires.0.sound in
+    set-of _ _ _ _ c.requires.0.sound in
     let tiled : Native c.args.set.mode c.args.set.depth c.args.set.width c.args.set.height =
-        record { mode = sound.mode; depth = sound.depth; size = c.requires.1 } in
+    record { mode = sound.mode; depth = sound.depth; size = c.requires.1 } in
     c.byte_count-size.ensures ∙ ap byte_count c.packing_of-p.ensures ∙ (fitting (tiled)).bytes
 
 bytes-at : (c : In-loop-i) → c.loop-i.i * c.byte_count-size.result ≡ c.loop-i.i * (tile_size c.args.set.depth c.args.set.width c.args.set.height)
 bytes-at c =
     let sound : IsSet c.args.set.mode c.args.set.depth c.args.set.width c.args.set.height =
-        set-of _ _ _ _ c.requires.0.sound in
+    set-of _ _ _ _ c.requires.0.sound in
     let tiled : Native c.args.set.mode c.args.set.depth c.args.set.width c.args.set.height =
-        record { mode = sound.mode; depth = sound.depth; size = c.requires.1 } in
+    record { mode = sound.mode; depth = sound.depth; size = c.requires.1 } in
     let bytes-are : c.byte_count-size.result ≡ (tile_size c.args.set.depth c.args.set.width c.args.set.height) =
-        c.byte_count-size.ensures ∙ ap byte_count c.packing_of-p.ensures ∙ (fitting (tiled)).bytes in
+    c.byte_count-size.ensures ∙ ap byte_count c.packing_of-p.ensures ∙ (fitting (tiled)).bytes in
     ap (λ (k : ℕ). c.loop-i.i * k) (bytes-are)
 
 from : (c : In-loop-i) → c.loop-i.i * (tile_size c.args.set.depth c.args.set.width c.args.set.height) + (tile_size c.args.set.depth c.args.set.width c.args.set.height) ≤ length (c.args.bytes.now)
 from c =
     let sound : IsSet c.args.set.mode c.args.set.depth c.args.set.width c.args.set.height =
-        set-of _ _ _ _ c.requires.0.sound in
+    set-of _ _ _ _ c.requires.0.sound in
     let tiled : Native c.args.set.mode c.args.set.depth c.args.set.width c.args.set.height =
-        record { mode = sound.mode; depth = sound.depth; size = c.requires.1 } in
+    record { mode = sound.mode; depth = sound.depth; size = c.requires.1 } in
     straight-inside (tiled) (length (c.args.bytes.now)) c.loop-i.i (omega (arith, c.requires.0.is, c.loop-i-test.true))
 
 here : (c : In-loop-i) → c.loop-i.i * (c.args.set.width * c.args.set.height) + (c.args.set.width * c.args.set.height) ≤ length (c.args.store.now)
