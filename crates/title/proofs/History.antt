@@ -57,5 +57,6 @@ module _ (count : ℕ) (common : List ℕ) where
         → TitleCalls common (record { count = count; set = x; store = s }) cs
         → Stands seen z (since_calls z t (own_calls cs)) (last_set x (own_calls cs)) (last_store s (own_calls cs))
     after-calls st [] k = st
-    after-calls st (own_call c ∷ cs) k = after-calls (after-own st c k.0) cs k.1
-    after-calls st (held_call p r ∷ cs) k = after-calls st cs k.1
+    after-calls {t = t} {x = x} {s = s} st (own_call c ∷ cs) k =
+        after-calls {t = since_call z t c} {x = set_after x c} {s = store_after s c} (after-own st c k.0) cs k.1
+    after-calls {t = t} {x = x} {s = s} st (held_call p r ∷ cs) k = after-calls {t = t} {x = x} {s = s} st cs k.1
