@@ -9,7 +9,7 @@ use Rattle.picture.proofs.put_map.Given as goal
 
 abbrev pub invariant-loop-i : goal.invariant-loop-i
 invariant-loop-i l =
-    (l.i ≤ l.count) × Filled (λ i. entry_bytes l.mode (entry_coded l.mode l.palette (get_or l.codes i 0))) l.initial.map (l.first * (row l.mode).initial) l.i l.map
+    (l.i ≤ l.count) × Filled (λ i. entry_bytes l.mode (entry_coded l.mode l.palette (get_or l.codes i 0))) l.initial.map (l.first * (row l.mode).entry) l.i l.map
 
 abbrev pub decreases-loop-i : goal.decreases-loop-i
 decreases-loop-i l = l.count - l.i

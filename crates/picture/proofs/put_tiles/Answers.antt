@@ -41,7 +41,7 @@ inside c =
     subst (λ (n : ℕ). n < places c.args.settings) (sym c.place.ensures)
     (c.requires.stored.taken (c.args.held + c.loop-k.k) (omega arith) (omega (arith, c.loop-k-test.true)))
 
-taken : (c : After-take_tile-tile) → c.take_tile-tile.result ≡ (λ k. tile_at c.args.settings c.args.pixels.now (get_or c.args.from.now (c.args.held + k) 0)) (c.loop-k.k)
+taken : (c : After-take_tile-tile) → c.take_tile-tile.result ≡ tile_at c.args.settings c.args.pixels.now (get_or c.args.from.now (c.args.held + c.loop-k.k) 0)
 taken c =
     let a = c.args in
     c.take_tile-tile.ensures ∙ ap (tile_at a.settings a.pixels.now) c.place.ensures
