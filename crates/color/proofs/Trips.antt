@@ -12,7 +12,7 @@ use lib.Seq.{take_all, drop-cons, length-take-le}
 use borrow.Author.Tests.{ltb-true, ltb-false, eqb-true, eqb-false, eq-eqb, ne_eqb}
 use Rattle.words.specs.Bytes.{word_of, are_bytes}
 use Rattle.words.specs.Fields.{join}
-use Rattle.words.specs.Inner.{bits_of, are_fields, all}
+use Rattle.words.specs.Inner.{bits_of, are_fields}
 use Rattle.words.proofs.Bytes.{length-bytes, bytes_take, bytes_drop}
 use Rattle.words.proofs.Fields.{Held, length-split, split-held, values-back, bytes_back}
 use Rattle.words.proofs.Loops.{all-at}

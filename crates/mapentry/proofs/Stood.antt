@@ -9,7 +9,7 @@ use Prim.Native.Nat.{ℕ, zero, suc}
 use native.Mathlib.Nat.{suc-ne-zero}
 use lib.Dec.{ltb, eqb}
 use lib.ListN.{length}
-use Rattle.words.specs.Answers.{◌when◌, first_applying, lowest, unless, written, numbered, overwrite, Wrote}
+use Rattle.words.specs.Answers.{◌when◌, first_applying, lowest, unless, numbered, overwrite, Wrote}
 use Rattle.words.specs.declared.Written.{Written}
 use Rattle.words.proofs.Order.{first-lowest}
 use Rattle.mode.specs.Table.{row, one_of, pce-sprite}

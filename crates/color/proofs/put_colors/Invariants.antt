@@ -1,7 +1,7 @@
 -- The colours of the words passed stand in front of what was there before.
 use mathlib.Core.Path.{◌≡◌}
 use mathlib.Core.List.{◌++◌}
-use Prim.Native.Nat.{◌+◌, ◌*◌, ◌-◌, ◌≤◌}
+use Prim.Native.Nat.{◌*◌, ◌-◌, ◌≤◌}
 use lib.ListN.{length, drop}
 use Rattle.words.specs.Loops.{each}
 use Rattle.color.specs.Inner.{color_from, word_from}

@@ -1,11 +1,9 @@
-use mathlib.Core.Path.{◌≡◌, refl, sym, ap, ◌∙◌}
-use mathlib.Core.List.{List, [], ◌∷◌}
-use Prim.Native.Nat.{ℕ, ◌+◌, ◌-◌, ◌*◌, ◌<◌, ◌≤◌}
+use mathlib.Core.Path.{refl}
+use Prim.Native.Nat.{◌<◌, ◌≤◌}
 use native.Mathlib.Omega.{arith}
-use lib.ListN.{length, get_or, get_or-eq_default}
-use lib.Seq.{sets, length-sets}
-use Rattle.words.proofs.Filling.{filled_none, filled_next, filled-front}
-use Rattle.mode7.specs.Block.{pair_count, pair_of, block_of}
+use lib.ListN.{length}
+use Rattle.words.proofs.Filling.{filled_none, filled-front}
+use Rattle.mode7.specs.Block.{pair_count, block_of}
 use Rattle.mode7.proofs.Pairs.{begins, next, ended}
 use Rattle.mode7.proofs.put_block.Goals as goal
 

@@ -1,5 +1,4 @@
 use mathlib.Core.Path.{◌≡◌, refl}
-use Prim.Native.Nat.{◌-◌}
 use native.Mathlib.Omega.{arith}
 use Rattle.words.proofs.Filling.{filled_none, filled-next-one, filled-front}
 use Rattle.mode7.specs.Block.{pair_count, tile_half, map_half}

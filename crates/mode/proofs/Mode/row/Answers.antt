@@ -2,7 +2,6 @@
 use mathlib.Core.Path.{◌≡◌, sym, ap}
 use Prim.Native.Nat.{ℕ}
 use native.Mathlib.Omega.{arith}
-use Rattle.words.proofs.Loops.{passed}
 use Rattle.mode.specs.Table.{row}
 use Rattle.mode.specs.Inner.{numbers}
 use Rattle.mode.proofs.Mode.row.Goals as goal

@@ -1,10 +1,9 @@
 use Rattle.tile.proofs.sprites.cell_words.Invariants.{word}
 use mathlib.Core.Path.{◌≡◌, subst}
-use Prim.Native.Nat.{ℕ, ◌-◌, ◌*◌, ◌/◌, ◌≤◌}
+use Prim.Native.Nat.{ℕ, ◌*◌, ◌/◌, ◌≤◌}
 use native.Mathlib.Omega.{arith}
 use native.Mathlib.Nat.{mul-le-mul_right}
 use borrow.Author.Rules.{rules}
-use Rattle.words.specs.Inner.{word_at}
 use Rattle.tile.proofs.Filling.{Starts, starts_none, starts_more}
 use Rattle.tile.proofs.Sides.{cell-read}
 use Rattle.tile.proofs.sprites.cell_words.Goals as goal
