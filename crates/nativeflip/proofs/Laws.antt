@@ -4,7 +4,7 @@
 use mathlib.Core.Path.{◌≡◌, sym, ap, ◌∙◌, subst}
 use mathlib.Core.Bool.{true, false, xor}
 use mathlib.Core.List.{List, [], ◌∷◌}
-use Prim.Native.Nat.{ℕ, ◌+◌, ◌*◌, ◌/◌, ◌^◌, ◌<◌, ◌≤◌}
+use Prim.Native.Nat.{ℕ, ◌*◌, ◌^◌, ◌<◌, ◌≤◌}
 use native.Mathlib.Omega.{arith}
 use lib.Dec.{T}
 use lib.ListN.{length, get_or, take}
@@ -22,7 +22,7 @@ use Rattle.tile.proofs.Filling.{spread-is}
 use Rattle.tile.proofs.Laws.{packed-length, packed-bytes, unpacked-length, unpacked-small, pixels-back, bytes_back}
 use Rattle.flip.specs.Flips.{flip, flip_at, flipped, after}
 use Rattle.flip.specs.declared.Flip.{Flip}
-use Rattle.flip.proofs.Group.{flip_at-lt, length-flipped, flipped-at, flipped-flipped, flipped-none, flipped-back, flips-commute, h-then-v}
+use Rattle.flip.proofs.Group.{flip_at-lt, length-flipped, flipped-at, flipped-flipped, flipped-none, flipped-back, flips-commute}
 use Rattle.nativeflip.specs.Flipping.{flip_says, flipped_bytes, reversed}
 use Rattle.nativeflip.specs.Inner.{is_cell}
 use Rattle.nativeflip.proofs.Checks.{flippable}

@@ -3,7 +3,7 @@
 use mathlib.Core.Path.{◌≡◌, refl, sym, ap, ◌∙◌, subst}
 use mathlib.Core.Bool.{Bool, true, false, not, ◌&&◌, ◌||◌}
 use mathlib.Core.List.{List, [], ◌∷◌}
-use Prim.Native.Nat.{ℕ, ◌*◌, ◌/◌, ◌%◌, ◌≤◌, ◌<◌}
+use Prim.Native.Nat.{ℕ, ◌/◌, ◌%◌, ◌≤◌}
 use native.Mathlib.Omega.{arith}
 use lib.Dec.{T, ltb, leb, eqb, ltb→lt, leb→le, eqb→eq}
 use lib.ListN.{length}
@@ -22,7 +22,7 @@ use Rattle.tile.specs.contracts.Packing.{the_type}
 use Rattle.tile.proofs.Packings.{in_each, each_at, implied}
 use Rattle.flip.specs.Flips.{flip, flip_at, flipped}
 use Rattle.flip.specs.declared.Flip.{Flip}
-use Rattle.nativeflip.specs.Inner.{is_row, is_pixel_row, planes_turned, pixels_turned, is_cell, HasWords, HasRows, HasTile}
+use Rattle.nativeflip.specs.Inner.{is_row, is_pixel_row, planes_turned, pixels_turned, is_cell, HasRows, HasTile}
 use Rattle.nativeflip.proofs.Agreement.{all_agree, one-step}
 
 -- the bytes of a row, and how they are turned

@@ -1,9 +1,9 @@
 -- The words that the code turns, written out, and by computed tests where each of their bytes and bits comes from.
 -- Assumes nothing.
-use mathlib.Core.Path.{◌≡◌, refl, sym, ap, ◌∙◌, subst}
+use mathlib.Core.Path.{◌≡◌, refl, sym, ap, ◌∙◌}
 use mathlib.Core.Bool.{Bool}
-use mathlib.Core.List.{List, [], ◌∷◌}
-use Prim.Native.Nat.{ℕ, ◌+◌, ◌*◌, ◌/◌, ◌%◌, ◌^◌, ◌<◌}
+use mathlib.Core.List.{[], ◌∷◌}
+use Prim.Native.Nat.{ℕ, ◌+◌, ◌*◌, ◌^◌, ◌<◌}
 use native.Mathlib.Nat.{zero-add}
 use native.Mathlib.Omega.{arith}
 use lib.Dec.{T, ltb, eqb, ltb→lt, eqb→eq}
@@ -11,17 +11,16 @@ use lib.ListN.{get_or}
 use borrow.Author.Tests.{ne_eqb}
 use Rattle.words.specs.Inner.{byte_in, all}
 use Rattle.words.proofs.Loops.{all-at}
-use Rattle.mode.specs.Table.{one_of}
 use Rattle.tile.specs.Bits.{bit_of, from_bits}
 use Rattle.tile.specs.Layout.{Side}
-use Rattle.tile.specs.Inner.{byte_of, word_from}
+use Rattle.tile.specs.Inner.{byte_of}
 use Rattle.tile.proofs.Bits.{bits-same, bits_of}
 use Rattle.tile.proofs.Columns.{only}
-use Rattle.tile.proofs.Packings.{in_each, each_at, or-none}
+use Rattle.tile.proofs.Packings.{or-none}
 use Rattle.tile.proofs.Sides.{word_byte}
 use Rattle.tile.proofs.Wires.{is_side, word-is, one-small, trade}
 use Rattle.tile.proofs.Wiring.{Wire, given, value, is_wired_in, origin, pick, merge, is_from, suits}
-use Rattle.nativeflip.specs.Inner.{is_row, is_pixel_row, parts_back, fields_back, exchanged, RowsBack, FieldsBack}
+use Rattle.nativeflip.specs.Inner.{is_row, is_pixel_row, parts_back, exchanged, RowsBack, FieldsBack}
 
 -- ---- a byte by its bits
 

@@ -16,12 +16,12 @@ use Rattle.words.specs.Inner.{wide, word_at, byte_in, bytes_in, all}
 use Rattle.words.proofs.Eights.{wide-byte, word-byte-at}
 use Rattle.words.proofs.Filling.{Filled, filled_next}
 use Rattle.words.proofs.Loops.{both_left, both_right, all-at}
-use Rattle.tile.specs.Bits.{bit_of, from_bits}
+use Rattle.tile.specs.Bits.{bit_of}
 use Rattle.tile.specs.Layout.{element}
 use Rattle.tile.specs.Inner.{HasWord}
 use Rattle.tile.proofs.Bits.{bit-lt, bits-lt}
 use Rattle.tile.proofs.Filling.{run, run_is}
-use Rattle.tile.proofs.Packings.{in_each, each_at, implied}
+use Rattle.tile.proofs.Packings.{each_at, implied}
 use Rattle.nativeflip.specs.Flipping.{reversed}
 use Rattle.nativeflip.specs.Inner.{is_row, each_back, parts_back, word_place, row_place, byte_from, fields_back, RowsBack, FieldsBack, BitsBack, planes_turned, pixels_turned, Reverses, HasWords}
 use Rattle.nativeflip.proofs.Wires.{byte-bits}

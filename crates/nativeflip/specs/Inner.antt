@@ -9,7 +9,6 @@ use Rattle.tile.specs.Layout.{Side}
 use Rattle.tile.specs.Inner.{byte_count, is_packing}
 use Rattle.tile.specs.declared.Packing.{Packing}
 use Rattle.tile.specs.declared.Packing.TheVariants.{Planar, Ngp, LowFirst, HighFirst, Plain, Sprite}
-use Rattle.flip.specs.declared.Flip.{Flip}
 use Rattle.nativeflip.specs.Flipping.{reversed}
 
 -- ---- rows: n bytes each, eight rows in n words, 8 / n rows in a word

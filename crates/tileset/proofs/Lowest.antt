@@ -5,7 +5,7 @@ use mathlib.Core.Bool.{not}
 use mathlib.Core.List.{[], ◌∷◌}
 use Prim.Native.Nat.{ℕ}
 use lib.Dec.{ltb, eqb}
-use Rattle.words.specs.Answers.{◌when◌, lowest}
+use Rattle.words.specs.Answers.{lowest}
 use Rattle.words.proofs.Order.{Gives, gives-when, first-lowest, gives_more}
 use Rattle.mode.specs.Table.{has_depth}
 use Rattle.tileset.specs.Sets.{is_size, set_checks, set_says, area, room_in, held_checks, look_checks, look_says}

@@ -16,7 +16,7 @@ loop-i-preserved c =
       omega arith,
       omega arith,
       search rules,
-      number_put c.args.t3 l.i c.numeral.ensures l.invariant.3 c.put_line-end.ensures.0,
+      number_put c.args.values l.i c.numeral.ensures l.invariant.3 c.put_line-end.ensures.0,
     )
 
 pub returns : goal.returns

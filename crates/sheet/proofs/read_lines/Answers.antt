@@ -62,3 +62,7 @@ returns c =
     let all : length sheet_lines ≤ l.k = outside l.k c.loop-k-test.false in
     ap (λ (z : Settings). Read z l.at) c.settings.ensures
     ∙ sym (ap sheet_of (l.invariant.3 ∙ lines_end c.args.s.now l.values l.k l.at all (omega arith)))
+
+pub loop-k-smaller : goal.loop-k-smaller
+unfolding sheet_lines
+loop-k-smaller c = omega arith
