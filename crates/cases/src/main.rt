@@ -4,81 +4,111 @@
 
 ghost use Rattle.std.specs.Prelude.{◌<◌, ◌≤◌, length};
 
-use libc::STDOUT_FILENO;
 use sheet::Told;
+use std::io::Read;
+use std::rt::{Env, Files};
+use std::{env, fs, io};
 
-fn title(name: &[u8]) {
-    io::write_all(STDOUT_FILENO, b"== ");
-    io::write_all(STDOUT_FILENO, name);
-    io::write_all(STDOUT_FILENO, b"\n");
+// The most bytes of a file.
+const FILE_SPACE: usize = 131072;
+
+fn title(rt: &impl Print, name: &[u8]) -> io::Result<()> {
+    rt.write_all(b"== ")?;
+    rt.write_all(name)?;
+    rt.write_all(b"\n")
 }
 
-fn answer(input: &[u8]) {
+fn answer(rt: &impl Print, input: &[u8]) -> io::Result<()> {
     let mut out = [0u8; sheet::OUT_SPACE];
     let r = sheet::run(input, &mut out);
     let written = r.written;
-    io::write_all(STDOUT_FILENO, &out[..written]);
-    io::write_all(STDOUT_FILENO, b"\n");
+    rt.write_all(&out[..written])?;
+    rt.write_all(b"\n")
 }
 
-// The case that starts s; how many bytes it takes. What is no case takes all.
-fn one(s: &[u8]) -> usize
+// A case: its name, what the program is given, and how many bytes the case takes. What is no case gives nothing and takes all.
+#[derive(Clone, Copy)]
+struct Case<'a> {
+    pub name: &'a [u8],
+    pub input: Option<&'a [u8]>,
+    pub takes: usize,
+}
+
+// The case that starts s.
+fn one<'a>(s: &'a [u8]) -> Case<'a>
     requires { (0 < length s.now) × (length s.now ≤ 131072) }
-    ensures { (0 < result) × (result ≤ 131073) }
+    ensures { (0 < result.takes) × (result.takes ≤ 131073) }
 {
-    let name = sheet::line_length(s);
-    title(&s[..name]);
-    if s.len() <= name {
-        return s.len();
+    let named = sheet::line_length(s);
+    let name = &s[..named];
+    let none = Case {
+        name,
+        input: None,
+        takes: s.len(),
+    };
+    if s.len() <= named {
+        return none;
     }
-    let counted = &s[name + 1..];
+    let counted = &s[named + 1..];
     let digits = sheet::line_length(counted);
     if counted.len() <= digits {
-        return s.len();
+        return none;
     }
     let Told::Value(n) = sheet::number(&counted[..digits]) else {
-        return s.len();
+        return none;
     };
     let bytes = &counted[digits + 1..];
     let size = n as usize;
     if bytes.len() < size {
-        return s.len();
+        return none;
     }
-    answer(&bytes[..size]);
-    name + digits + size + 3
+    Case {
+        name,
+        input: Some(&bytes[..size]),
+        takes: named + digits + size + 3,
+    }
 }
 
-fn each(s: &[u8])
+// The case's title, and what the program writes for it.
+fn show(rt: &impl Print, case: Case<'_>) -> io::Result<()> {
+    title(rt, case.name)?;
+    match case.input {
+        Some(input) => answer(rt, input),
+        None => Ok(()),
+    }
+}
+
+fn each(rt: &impl Print, s: &[u8]) -> io::Result<()>
     requires { length s.now ≤ 131072 }
 {
     let mut at: usize = 0;
     while at < s.len() {
-        at += one(&s[at..]);
+        let case = one(&s[at..]);
+        show(rt, case)?;
+        at += case.takes;
+    }
+    Ok(())
+}
+
+fn file<R: Files + Print + Eprint + Alloc>(rt: &R, name: &str) -> io::Result<()> {
+    match fs::open(rt, name) {
+        Ok(opened) => {
+            let mut s = Vec::new(rt.alloc());
+            opened.take(FILE_SPACE as u64).read_to_end(&mut s)?;
+            let n = s.len().min(FILE_SPACE);
+            each(rt, &s[..n])
+        }
+        Err(error) => eprintln!(rt; "{name}: {error}"),
     }
 }
 
-fn file(i: usize) {
-    let mut name = io::buffer();
-    let k = os::arg(i, &mut name);
-    let fd = os::open_read(&name[..k]);
-    if fd < 0 {
-        os::fail(&name[..k]);
-        return;
+fn files<R: Env + Files + Print + Eprint + Alloc>(rt: &R) -> io::Result<()> {
+    for name in env::args(rt)?.skip(1) {
+        file(rt, &name)?;
     }
-    let mut s = [0u8; 131072];
-    let n = io::read_full(fd, &mut s);
-    libc::close(fd);
-    each(&s[..n]);
+    Ok(())
 }
 
-fn files(n: usize) {
-    let mut i: usize = 1;
-    while i < n {
-        file(i);
-        i += 1;
-    }
-}
-
-fn main() {
-    files(os::arg_count());
+fn main(rt: HostRuntime) -> io::Result<()> {
+    files(&rt)
 }

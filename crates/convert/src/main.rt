@@ -1,13 +1,16 @@
 // The program: reads a sheet and its pixels on standard input, and writes what they come to.
 #![tactic(auto)]
 
-use libc::{STDIN_FILENO, STDOUT_FILENO};
+use std::io;
+use std::io::Read;
 
-fn main() {
-    let mut input = [0u8; sheet::INPUT_SPACE];
+fn main(rt: HostRuntime) -> io::Result<()> {
+    let mut input = Vec::new(rt.alloc());
+    rt.stdin()
+        .take(sheet::INPUT_SPACE as u64)
+        .read_to_end(&mut input)?;
     let mut out = [0u8; sheet::OUT_SPACE];
-    let size = io::read_full(STDIN_FILENO, &mut input);
-    let r = sheet::run(&input[..size], &mut out);
+    let r = sheet::run(&input, &mut out);
     let written = r.written;
-    io::write_all(STDOUT_FILENO, &out[..written]);
+    rt.write_all(&out[..written])
 }

@@ -6,8 +6,9 @@ ghost use Rattle.std.specs.Prelude.{◌+◌, ◌^◌, ◌<◌, ◌≤◌, length
 ghost use Rattle.replay.specs.Inner.{Inside, list_space};
 
 use color::Rounding;
-use libc::{STDIN_FILENO, STDOUT_FILENO};
 use mapentry::Mapentry;
+use std::io;
+use std::io::Read;
 use tileset::{Logical, Native, Place, Set};
 use words::{Number, Written};
 
@@ -119,7 +120,9 @@ fn put_bytes(s: &[u8], out: &mut [u8]) -> usize
 }
 
 // The first n bytes of s, or all of them where there are fewer.
-fn front<'a>(s: &'a [u8], n: usize) -> &'a [u8] {
+fn front<'a>(s: &'a [u8], n: usize) -> &'a [u8]
+    ensures { length result.now ≤ n }
+{
     if s.len() < n {
         return s;
     }
@@ -474,23 +477,23 @@ fn named(kind: u32, word: &[u8]) -> bool {
     }
 }
 
-fn print_kind(kind: u32) {
+fn print_kind(rt: &impl Print, kind: u32) -> io::Result<()> {
     match kind {
-        0 => print(b"colors"),
-        1 => print(b"palette"),
-        2 => print(b"reduce"),
-        3 => print(b"scale"),
-        4 => print(b"entry"),
-        5 => print(b"read"),
-        6 => print(b"index"),
-        7 => print(b"attribute"),
-        8 => print(b"tile"),
-        9 => print(b"pixels"),
-        10 => print(b"set"),
-        11 => print(b"cells"),
-        12 => print(b"native"),
-        13 => print(b"logical"),
-        _ => print(b"comments"),
+        0 => print(rt, b"colors"),
+        1 => print(rt, b"palette"),
+        2 => print(rt, b"reduce"),
+        3 => print(rt, b"scale"),
+        4 => print(rt, b"entry"),
+        5 => print(rt, b"read"),
+        6 => print(rt, b"index"),
+        7 => print(rt, b"attribute"),
+        8 => print(rt, b"tile"),
+        9 => print(rt, b"pixels"),
+        10 => print(rt, b"set"),
+        11 => print(rt, b"cells"),
+        12 => print(rt, b"native"),
+        13 => print(rt, b"logical"),
+        _ => print(rt, b"comments"),
     }
 }
 
@@ -580,8 +583,8 @@ fn replay(s: &[u8], kind: u32) -> Tally
     t
 }
 
-fn print(text: &[u8]) {
-    io::write_all(STDOUT_FILENO, text);
+fn print(rt: &impl Print, text: &[u8]) -> io::Result<()> {
+    rt.write_all(text)
 }
 
 // How many lines there are.
@@ -598,38 +601,31 @@ fn line_count(s: &[u8]) -> usize
     lines
 }
 
-fn print_tally(lines: usize, different: usize) {
-    print(b": ");
-    io::print_decimal(STDOUT_FILENO, lines as u64);
-    print(b" lines, ");
-    io::print_decimal(STDOUT_FILENO, different as u64);
-    print(b" different\n");
+fn print_tally(rt: &impl Print, lines: usize, different: usize) -> io::Result<()> {
+    println!(rt; ": {lines} lines, {different} different")
 }
 
-fn report_kind(s: &[u8], kind: u32)
+fn report_kind(rt: &impl Print, s: &[u8], kind: u32) -> io::Result<()>
     requires { length s.now ≤ list_space }
 {
     let t = replay(s, kind);
-    print_kind(kind);
-    print_tally(t.lines, t.different);
+    print_kind(rt, kind)?;
+    print_tally(rt, t.lines, t.different)
 }
 
 // A line for each kind; the comments; and the number of all lines, so that none is passed over unseen.
-fn report(s: &[u8])
+fn report(rt: &impl Print, s: &[u8]) -> io::Result<()>
     requires { length s.now ≤ list_space }
 {
-    let mut kind: u32 = 0;
-    while kind < 15 {
-        report_kind(s, kind);
-        kind += 1;
+    for kind in 0..15 {
+        report_kind(rt, s, kind)?;
     }
-    print(b"all: ");
-    io::print_decimal(STDOUT_FILENO, line_count(s) as u64);
-    print(b" lines\n");
+    let lines = line_count(s);
+    println!(rt; "all: {lines} lines")
 }
 
-fn main() {
-    let mut list = [0u8; LIST_SPACE];
-    let n = io::read_full(STDIN_FILENO, &mut list);
-    report(&list[..n]);
+fn main(rt: HostRuntime) -> io::Result<()> {
+    let mut list = Vec::new(rt.alloc());
+    rt.stdin().take(LIST_SPACE as u64).read_to_end(&mut list)?;
+    report(&rt, front(&list, LIST_SPACE))
 }
