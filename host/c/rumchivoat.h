@@ -23,7 +23,7 @@
 #include <stdint.h>
 
 /* The number of the interface that this header is about. Compare it with rumchivoat_interface() of the archive. */
-#define RUMCHIVOAT_INTERFACE 8
+#define RUMCHIVOAT_INTERFACE 7
 
 /* ---- the sixteen modes */
 

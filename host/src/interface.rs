@@ -6,7 +6,7 @@ use std::fmt;
 use crate::raw;
 
 /// The number of the interface that this crate is written for.
-pub const INTERFACE: u32 = 8;
+pub const INTERFACE: u32 = 7;
 
 /// The archive has another interface than the crate.
 #[derive(Debug, Clone, Copy, PartialEq, Eq, Hash)]

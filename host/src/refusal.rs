@@ -127,9 +127,7 @@ impl Refusal {
         match self {
             Refusal::Settings => "the sheet is not eight lines of settings and exactly the picture's pixels",
             Refusal::Mode => "the mode number is above 15",
-            Refusal::PceSprite => {
-                "pce_sprite has no map entries, no pictures, no cell numbers and no 8x8 tiles to flip"
-            }
+            Refusal::PceSprite => "pce_sprite has no map entries, no pictures and no cell numbers",
             Refusal::Depth => "the mode does not have this depth",
             Refusal::Size => {
                 "the mode has no tiles of this size, columns or rows are not 1 to 64, or a tile number is above 65,535"

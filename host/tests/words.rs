@@ -12,7 +12,7 @@ fn words<T>(answer: Result<T, Refused>) -> String {
 }
 
 /// The words of every call that is not for pce_sprite.
-const SPRITE: &str = "refused 2: pce_sprite has no map entries, no pictures, no cell numbers and no 8x8 tiles to flip";
+const SPRITE: &str = "refused 2: pce_sprite has no map entries, no pictures and no cell numbers";
 
 fn picture(mode: Mode, depth: u32) -> Settings {
     Settings::new(mode, depth, MapSize { columns: 2, rows: 1 })

@@ -8,7 +8,7 @@ use Rattle.picture.specs.declared.Settings.{Settings}
 
 -- The number of the interface: one more with each landing that adds or changes a call.
 abbrev pub interface : ℕ
-interface = 8
+interface = 7
 
 abbrev pub rounding_of : Bool → Rounding
 rounding_of nearest = cond nearest Nearest Truncate

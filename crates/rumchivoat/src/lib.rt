@@ -37,7 +37,7 @@ use words::{Number, Written};
 pub extern "C" fn rumchivoat_interface() -> u32
     ensures { result ≡ interface }
 {
-    8
+    7
 }
 
 // A native tile: pixels to the mode's bytes.
