@@ -43,15 +43,16 @@ trap 'exit 2' HUP INT PIPE TERM
 # A longer input is answered as its beginning is: the program reads no more. (proved: cut-alike)
 head -c 65642 >"$work/sheet" || fail 2 "the sheet could not be read"
 
+# rt builds a program where it runs it. Here it runs on no sheet, whose refusal is no part of the text.
 prove() {
     sources=$(sources)
-    is_made target/bin/convert "$sources" && return
-    rt check convert >&2 </dev/null || fail 3 "the program convert is not proved: rt says why"
+    is_made "$program" "$sources" && return
+    (cd crates/convert && rt run) </dev/null >"$work/none" || fail 3 "the program convert is not proved: rt says why"
     [ "$(sources)" = "$sources" ] || fail 3 "a file under crates changed meanwhile: run it again"
-    mark_made target/bin/convert "$sources"
+    mark_made "$program" "$sources"
 }
 
-# The program ends with status 0 even where what it writes is lost; cat, which takes it from a pipe, does not.
+# The program writes into a pipe, and cat takes it from there: so it is told apart whose write was lost.
 run_program() {
     ended=$({
         {

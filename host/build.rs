@@ -1,5 +1,5 @@
-//! Finds the archive to link: `target/staticlib` on x86-64, for which `rt staticlib` writes, and `target/native`, by
-//! `host/native.sh`, on another processor. `RUMCHIVOAT_ARCHIVE` can name another folder.
+//! Finds the archive to link: in `target/staticlib`, where `host/sh/archive.sh` writes it, which is for x86-64. For another
+//! processor `target/native` is looked at. `RUMCHIVOAT_ARCHIVE` can name another folder.
 //!
 //! An archive with another interface than the crate's is refused here, so that no call has to look: a program of one line
 //! is built over it and asked.
@@ -99,9 +99,8 @@ fn archive_folder() -> PathBuf {
 
 fn cure() -> &'static str {
     if on_x86_64() {
-        "run `rt staticlib rumchivoat` at the top of the repository, or name the archive's folder in RUMCHIVOAT_ARCHIVE"
+        "run `sh host/sh/archive.sh` at the top of the repository, or name the archive's folder in RUMCHIVOAT_ARCHIVE"
     } else {
-        "run `rt staticlib rumchivoat`, then `sh host/native.sh`, at the top of the repository, or name the archive's \
-         folder in RUMCHIVOAT_ARCHIVE"
+        "the Rattle kit writes for x86-64 alone: name the folder of an archive for this processor in RUMCHIVOAT_ARCHIVE"
     }
 }

@@ -2,9 +2,9 @@
 # sh host/c/calls.sh
 #
 # Compiles calls.c for x86-64 as C99 and as C++17, links target/staticlib/librumchivoat.a, the archive that stations
-# link, and runs both: on another processor under the kit's emulator. The calls that they tell of are held to the
-# exports of crates/rumchivoat, to the header and to the table in docs/REFUSALS.md. The compiler is the kit's; where the
-# system has one of its own, the header is read with that one too. Run `rt staticlib rumchivoat` first.
+# link, and runs both. The calls that they tell of are held to the exports of crates/rumchivoat_c, to the header and to
+# the table in docs/REFUSALS.md. The compiler is the kit's; where the system has one of its own, the header is read with
+# that one too. Run `sh host/sh/archive.sh` first.
 # Status 3 where a tool or the archive is missing, 1 where anything differs.
 set -eu
 cd "$(dirname "$0")/../.."
@@ -13,8 +13,7 @@ help_if_asked host/c/calls.sh "$@"
 need rt awk grep sed sort cmp
 find_kit
 
-archive=target/staticlib/librumchivoat.a
-[ -e "$archive" ] || fail 3 "missing: $archive: run \`rt staticlib rumchivoat\`"
+[ -e "$archive" ] || fail 3 "missing: $archive: run \`sh host/sh/archive.sh\`"
 warnings="-Wall -Wextra -Wpedantic -Werror"
 place=target/c
 header=host/c/rumchivoat.h
@@ -35,7 +34,7 @@ calls() {
         -fno-stack-protector -fno-exceptions $warnings -isystem "$place/include" -c host/c/calls.c -o "$built.o"
     "$tools/bin/ld.lld" -static -o "$built" "$built.o" "$archive"
     ended=0
-    ${emulator:+"$emulator"} "$built" >"$built.said" || ended=$?
+    "$built" >"$built.said" || ended=$?
     if [ "$ended" -ne 0 ]; then
         grep FAILED "$built.said" >&2 || :
         fail 1 "calls.c as $2 ended with status $ended"
@@ -53,7 +52,7 @@ system_reads() {
 }
 
 exports() {
-    sed -n 's/^pub extern "C" fn \(rumchivoat_[a-z_0-9]*\).*/\1/p' crates/rumchivoat/src/lib.rt | sort
+    sed -n 's/^pub extern "C" fn \(rumchivoat_[a-z_0-9]*\).*/\1/p' crates/rumchivoat_c/src/lib.rt | sort
 }
 
 declared() {
@@ -88,7 +87,7 @@ system_reads cc c c99
 system_reads c++ c++ c++17
 exports >"$place/exports"
 declared >"$place/declared"
-same "the header does not declare the exports of crates/rumchivoat" "$place/declared" "$place/exports"
+same "the header does not declare the exports of crates/rumchivoat_c" "$place/declared" "$place/exports"
 in_the_table >"$place/table"
 for standard in c99 c++17; do
     told "$standard" 0 | sed 's/ 0$//' >"$place/done"

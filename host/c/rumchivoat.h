@@ -1,5 +1,5 @@
-/* The station's interface for a host in C or C++: librumchivoat.a, in target/staticlib for x86-64 and in target/native
- * for another processor (host/native.sh). It wants memcpy and memset of the host's C library, and nothing else.
+/* The station's interface for a host in C or C++: librumchivoat.a for x86-64, which host/sh/archive.sh writes in
+ * target/staticlib. It wants memcpy and memset of the host's C library, and nothing else.
  *
  * Every call answers every input. `refusal` is RUMCHIVOAT_DONE, or the number of the refusal; where several apply, the
  * first in the order below is given (docs/REFUSALS.md has causes and cures). Of a refused call every other field is 0 or

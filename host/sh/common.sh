@@ -33,14 +33,13 @@ need() {
     [ -z "$missing" ] || fail 3 "missing: $missing (README.md says what must be installed)"
 }
 
-# Finds the kit that rt belongs to: $kit, its $tools for this processor, and $emulator, which is empty where x86-64 code
-# runs as it is.
+# Finds the kit that rt belongs to, $kit, and its $tools. A kit runs on x86-64, and writes for it alone.
 find_kit() {
     kit=${RATTLE_HOME:-$(dirname "$(dirname "$(readlink -f "$(command -v rt)")")")}
-    tools=$kit/on/$(uname -m)/toolchain
-    [ -x "$tools/bin/clang" ] || fail 3 "missing: a Rattle kit for $(uname -m) at $kit"
-    emulator=$tools/bin/qemu-x86_64
-    [ -x "$emulator" ] || emulator=
+    tools=$kit/toolchain
+    if [ "$(uname -m)" != x86_64 ] || ! [ -x "$tools/bin/clang" ]; then
+        fail 3 "missing: a Rattle kit for $(uname -m) at $kit"
+    fi
 }
 
 # The modes by the definition that the proofs go by, a line each:
@@ -57,18 +56,28 @@ modes() {
         }'
 }
 
+# ---- what rt makes
+#
+# rt makes what a crate comes to in the crate's own folder out/, which is no part of the repository.
+
+# The program on sheets, and the archive that hosts link.
+# shellcheck disable=SC2034
+program=crates/convert/out/convert
+# shellcheck disable=SC2034
+archive=target/staticlib/librumchivoat.a
+
 # ---- work that is done is not done again
 #
-# rt keeps what it proved, but writes an archive anew each time, and looks at every crate each time. A file that was
-# made from the crates has a mark beside it, FILE.made: a hash of all that it came from, and one of the file. It goes by
-# content, since a file's time says little after a checkout or a copy.
+# rt keeps what it proved, but looks at every crate each time. A file that was made from the crates has a mark beside it,
+# FILE.made: a hash of all that it came from, and one of the file. It goes by content, since a file's time says little
+# after a checkout or a copy.
 
-# A hash of the crates, the kit, the processor, and further files that the work goes by.
+# A hash of the crates, the kit and the processor.
 sources() {
     {
         cat "$kit/KIT-ID"
         uname -m
-        find crates crates.txt "$@" -type f -exec sha256sum {} + | LC_ALL=C sort
+        find crates crates.txt -name out -prune -o -type f -exec sha256sum {} + | LC_ALL=C sort
     } | sha256sum
 }
 
