@@ -72,11 +72,16 @@ pub struct Module {
 }
 
 fn is_name(c: char) -> bool {
-    c.is_alphanumeric() || "-_'·→⁻₀₁₂".contains(c)
+    c.is_alphanumeric() || "-_'→⁻₀₁₂".contains(c)
 }
 
-/// The names that a text cites, those behind a module's name (`entry.packSays`) with it: no field (`z .mode`), and nothing
-/// that the text binds itself (`(z : Set)`).
+/// What stands before the first dot of a word: a module's name, or what has the field that follows.
+fn head(word: &str) -> &str {
+    word.split('.').next().expect("a split has a first part")
+}
+
+/// The names that a text cites, those behind a module's name (`entry.pack_says`) with it, and those before a field
+/// (`row.top`): no field of something longer (`(row m).top`), and nothing that the text binds itself (`(z : Set)`).
 pub fn names(text: &str) -> BTreeSet<String> {
     let words = |text: &str| -> Vec<String> {
         text.split(|c: char| !(is_name(c) || c == '.')).filter(|w| !w.is_empty()).map(str::to_string).collect()
@@ -89,7 +94,7 @@ pub fn names(text: &str) -> BTreeSet<String> {
         .collect();
     words(text)
         .into_iter()
-        .filter(|word| !word.starts_with('.') && !bound.contains(word))
+        .filter(|word| !word.starts_with('.') && !bound.contains(head(word)))
         .map(|word| word.trim_end_matches('.').to_string())
         .collect()
 }
@@ -102,15 +107,15 @@ fn code(line: &str) -> &str {
     line.split_once("  -- ").map_or(line, |(code, _)| code)
 }
 
-/// What an import line brings: `use Rattle·tile.specs.Tile.{packed, widths as w}`, `use Rattle·tile.specs.Tile as tile`.
+/// What an import line brings: `use Rattle.tile.specs.Tile.{packed, widths as w}`, `use Rattle.tile.specs.Tile as tile`.
 fn imports(line: &str, into: &mut BTreeMap<String, Place>) {
     let line = line.trim_start_matches("ghost ").trim_end_matches(';');
-    let Some(path) = line.strip_prefix("use Rattle·") else { return };
+    let Some(path) = line.strip_prefix("use Rattle.") else { return };
     let (path, list) = match path.split_once(".{") {
         Some((path, list)) => (path, Some(list.trim_end_matches('}'))),
         None => (path, None),
     };
-    let mut parts: Vec<&str> = path.split(['.', '·']).collect();
+    let mut parts: Vec<&str> = path.split('.').collect();
     let alias = parts.last().and_then(|last| last.split_once(" as ")).map(|(_, alias)| alias.to_string());
     if let Some(last) = parts.last_mut() {
         *last = last.split_once(" as ").map_or(last, |(name, _)| name);
@@ -137,9 +142,9 @@ fn imports(line: &str, into: &mut BTreeMap<String, Place>) {
     }
 }
 
-/// An operator's name without its places: `_when_` is cited as `when`.
+/// An operator's name without its places: `◌when◌` is cited as `when`.
 fn bare(name: &str) -> String {
-    name.trim_matches('_').to_string()
+    name.trim_matches('◌').to_string()
 }
 
 /// What a line declares, if it begins a declaration: the name, whether it is public, and whether it is a definition.
@@ -160,7 +165,7 @@ fn declares(line: &str) -> Option<(String, bool, bool)> {
         return None;
     }
     let (name, more) = rest.split_once(' ')?;
-    let named = !name.is_empty() && name.chars().all(is_name) && !name.starts_with('.');
+    let named = !bare(name).is_empty() && bare(name).chars().all(is_name);
     let declared =
         more.starts_with(": ") || more == ":" || (definition && (more.contains(':') || more.contains("where")));
     (named && declared).then(|| (bare(name), public, definition))
@@ -225,14 +230,14 @@ fn parsed(floor: &str, part: &str, name: &str, text: &str) -> Module {
     result
 }
 
-/// Every specs and laws file of every crate, by crate, part and module.
+/// Every specs and laws file of every crate, by crate, part and module. A function's own proof, in a folder below proofs/,
+/// states nothing for others; `Lib.antt` only lists the others.
 pub fn modules() -> BTreeMap<(String, String, String), Module> {
     let mut found = BTreeMap::new();
     for path in files("crates", ".antt") {
         let parts: Vec<&str> = path.split('/').collect();
-        let [_, floor, part, rest @ ..] = parts.as_slice() else { continue };
-        let file = rest.last().expect("a file");
-        if *file == "Proof.antt" || *file == "Lib.antt" || !(*part == "specs" || *part == "proofs") {
+        let [_, floor, part @ ("specs" | "proofs"), file] = parts.as_slice() else { continue };
+        if *file == "Lib.antt" {
             continue;
         }
         let name = file.trim_end_matches(".antt").to_string();
@@ -274,6 +279,17 @@ pub fn exports() -> (Vec<Export>, BTreeMap<String, Place>) {
     (found, known)
 }
 
+/// What a name stands for: an imported one, one of a module that is imported under a name of its own, or what has the
+/// field that is told.
+fn cited(name: &str, known: &BTreeMap<String, Place>) -> Option<Place> {
+    let of_module = || {
+        let (alias, name) = name.split_once('.')?;
+        let place = known.get(&format!("{alias}."))?;
+        Some(Place { name: head(name).into(), ..place.clone() })
+    };
+    known.get(name).cloned().or_else(of_module).or_else(|| known.get(head(name)).cloned())
+}
+
 /// The definitions that a text reaches, by what its names stand for and what those cite in turn.
 pub fn reached(
     text: &str,
@@ -282,12 +298,7 @@ pub fn reached(
     into: &mut BTreeSet<Place>,
 ) {
     for name in names(text) {
-        let place = known.get(&name).cloned().or_else(|| {
-            let (alias, name) = name.split_once('.')?;
-            let place = known.get(&format!("{alias}."))?;
-            Some(Place { name: name.into(), ..place.clone() })
-        });
-        let Some(place) = place else { continue };
+        let Some(place) = cited(&name, known) else { continue };
         let key = (place.floor.clone(), place.part.clone(), place.module.clone());
         let Some(module) = modules.get(&key) else { continue };
         let Some(declaration) = module.declarations.iter().find(|d| d.place.name == place.name && d.definition) else {

@@ -15,6 +15,11 @@ fn law_rows(text: &str) -> Vec<Vec<String>> {
     headings.into_iter().flat_map(|heading| rows(text, heading)).collect()
 }
 
+/// A text in which no name is told from another by its dashes.
+fn dashed(text: &str) -> String {
+    text.replace('_', "-")
+}
+
 #[test]
 fn every_export_has_its_theorems() {
     let theorems = read(THEOREMS);
@@ -22,9 +27,9 @@ fn every_export_has_its_theorems() {
     let listed = rows(&read(PROMISES), "## Calls");
     let (exports, _) = exports();
     for export in &exports {
-        let name = export.name.replace('_', "-");
-        let posts = format!(" {name}.Post");
-        let of = |kind: &str| stated.iter().filter(|s| s.contains(kind) && s.contains(&posts)).collect::<Vec<_>>();
+        let posts = dashed(&format!(" {}.Post", export.name));
+        let of =
+            |kind: &str| stated.iter().filter(|s| s.contains(kind) && dashed(s).contains(&posts)).collect::<Vec<_>>();
         let (results, contents, records) = (of(": OneResult "), of(": OneContent "), of(": OneLent "));
         assert_eq!(results.len(), 1, "rumchivoat_{} has no theorem of one result in {THEOREMS}", export.name);
         assert_eq!(contents.len(), export.lent, "rumchivoat_{}: a theorem for each lent slice", export.name);
