@@ -1,9 +1,9 @@
 -- A converted picture of snes_mode7 goes into a mode 7 block: so its tile bytes are never refused for their length.
 -- Assumes nothing.
-use mathlib.Core.Path.{◌≡◌, refl, sym, ap, ◌∙◌}
+use mathlib.Core.Path.{◌≡◌, sym, ap, ◌∙◌}
 use mathlib.Core.List.{List}
 use Prim.Native.Nat.{ℕ, ◌*◌, ◌^◌, ◌≤◌}
-use native.Mathlib.Nat.{le_trans, mul-le-mul, mul-one}
+use native.Mathlib.Nat.{mul-le-mul, mul-one}
 use native.Mathlib.Omega.{arith}
 use lib.Dec.{ltb}
 use lib.ListN.{length}
@@ -12,7 +12,7 @@ use Rattle.words.specs.Answers.{◌when◌}
 use Rattle.words.proofs.Answers.{last-given}
 use Rattle.mode.specs.Table.{row}
 use Rattle.mode7.specs.Block.{pair_count, make_says}
-use Rattle.picture.specs.Inner.{IsPicture, asked_says}
+use Rattle.picture.specs.Inner.{IsPicture}
 use Rattle.picture.specs.Converting.{places, convert_says, stored_of, tile_bytes_of, map_bytes_of}
 use Rattle.picture.specs.declared.Settings.{Settings}
 use Rattle.picture.proofs.Checks.{asked-picture, convert-passed, room-named}

@@ -1,4 +1,3 @@
-use Prim.Native.Nat.{◌-◌}
 use native.Mathlib.Omega.{arith}
 use Rattle.index.proofs.Keys.{hash-none, pair_made}
 use borrow.Author.Rules.{rules}

@@ -1,5 +1,4 @@
 use mathlib.Core.Path.{refl}
-use Prim.Native.Nat.{◌-◌}
 use native.Mathlib.Omega.{arith}
 use Rattle.words.proofs.Filling.{filled_none, filled_more, filled-all}
 use Rattle.picture.proofs.put_line.Goals as goal

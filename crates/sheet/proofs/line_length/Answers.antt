@@ -1,4 +1,3 @@
-use Prim.Native.Nat.{◌-◌}
 use native.Mathlib.Omega.{arith}
 use Rattle.sheet.proofs.Reading.{line-here, line-more, line-end}
 use Rattle.sheet.proofs.line_length.Goals as goal

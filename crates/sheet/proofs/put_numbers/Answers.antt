@@ -1,5 +1,4 @@
 use borrow.Author.Rules.{rules}
-use Prim.Native.Nat.{◌-◌}
 use native.Mathlib.Omega.{arith}
 use Rattle.sheet.proofs.Writing.{puts_none, number_put, key-inside, all-numbers}
 use Rattle.sheet.proofs.put_numbers.Goals as goal

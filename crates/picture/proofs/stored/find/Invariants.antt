@@ -1,6 +1,6 @@
 -- The tiles of the bucket from l on are searched.
 use mathlib.Core.Path.{◌≡◌}
-use Prim.Native.Nat.{◌-◌, ◌%◌}
+use Prim.Native.Nat.{◌%◌}
 use Rattle.index.proofs.Chains.{Searching}
 use Rattle.picture.specs.Inner.{stored_tiles}
 use Rattle.picture.proofs.stored.find.Given as goal

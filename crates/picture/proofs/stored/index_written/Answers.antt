@@ -1,6 +1,6 @@
 use mathlib.Core.Path.{◌≡◌, refl, subst}
 use mathlib.Core.List.{List}
-use Prim.Native.Nat.{ℕ, ◌-◌}
+use Prim.Native.Nat.{ℕ}
 use native.Mathlib.Omega.{arith}
 use Rattle.index.specs.Inner.{Indexed}
 use Rattle.picture.specs.Inner.{stored_tiles}
