@@ -7,12 +7,15 @@ use crate::looking::{found_in, title_says};
 use tileset::{Found, Set, SetAnswer};
 use words::refusal;
 
+// The most tiles that the common store and the own one hold together, for a map's number names one of either.
+const MOST: u32 = 65535;
+
 // The tile goes at the end of the own store, where there is room and the counts allow one more.
 fn append(set: Set, count: u32, store: &mut [u8], pixels: &[u8]) -> SetAnswer
     requires { Looks set store.old pixels.now × (count + set.stored ≤ 65535) }
     ensures { Stores set (title_room set count (length store.old)) store.old pixels.now result store.new }
 {
-    if count + set.stored == 65535 {
+    if count + set.stored == MOST {
         return SetAnswer {
             refusal: refusal::ROOM,
             set,
