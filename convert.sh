@@ -52,7 +52,7 @@ prove() {
     mark_made "$program" "$sources"
 }
 
-# The program writes into a pipe, and cat takes it from there: so it is told apart whose write was lost.
+# The program writes into a pipe. Where the file does not take what comes from it, that is told by the status of cat.
 run_program() {
     ended=$({
         {

@@ -5,8 +5,9 @@ usage: python3 tools/respell_docs.py [--check] [OLD [NEW]]      at the top of th
 
 A name is told by its place: the declarations of each specs/ and proofs/ file at OLD are set beside those of the same file at NEW, in their order. Where
 a file has more or fewer of them today, those are set side by side that read alike but for capitals, dashes and underscores. In the pages only what
-stands between backticks is looked at, word by word; a name that two files spell in two ways today stays as it is, and is told. With --check the pages
-stay as they are, and what would be replaced is printed. Run twice it changes nothing more.
+stands between backticks is looked at, word by word; a name that two files spell in two ways today stays as it is, and is told. docs/PORT.md tells of
+both spellings, and is left alone. With --check the pages stay as they are, and it prints how many lines of each would change. Run twice it changes
+nothing more.
 """
 
 import collections
@@ -74,7 +75,7 @@ def main(argv):
     new = {o: n.most_common(1)[0][0] for o, n in found.items() if len(n) == 1 and o not in n}
     split = {o: n for o, n in found.items() if len(n) > 1}
     told = set()
-    for page in ["README.md", *sorted(glob.glob("docs/*.md"))]:
+    for page in ["README.md", *sorted(set(glob.glob("docs/**/*.md", recursive=True)) - {"docs/PORT.md"})]:
         with open(page, encoding="utf-8") as f:
             stood = f.read()
 

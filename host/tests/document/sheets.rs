@@ -531,7 +531,7 @@ const PROVED: &str = concat!(env!("CARGO_MANIFEST_DIR"), "/../crates/sheet/specs
 fn the_longest_text() {
     let text = fs::read_to_string(PROVED).expect("the definition can be read");
     assert!(
-        text.lines().any(|line| line == format!("outSpace = {LONGEST_TEXT}")),
+        text.lines().any(|line| line == format!("out_space = {LONGEST_TEXT}")),
         "{LONGEST_TEXT} is not the proved one"
     );
 
