@@ -4,8 +4,8 @@
 
 ghost use Rattle.std.specs.Prelude.{◌<◌, ◌≤◌, length};
 
+use fill::read_full;
 use sheet::Told;
-use std::io::Read;
 use std::rt::{Env, Files};
 use std::{env, fs, io};
 
@@ -92,10 +92,9 @@ fn each(rt: &impl Print, s: &[u8]) -> io::Result<()>
 
 fn file<R: Files + Print + Eprint + Alloc>(rt: &R, name: &str) -> io::Result<()> {
     match fs::open(rt, name) {
-        Ok(opened) => {
-            let mut s = Vec::new(rt.alloc());
-            opened.take(FILE_SPACE as u64).read_to_end(&mut s)?;
-            let n = s.len().min(FILE_SPACE);
+        Ok(mut opened) => {
+            let mut s = [0u8; FILE_SPACE];
+            let n = read_full(&mut opened, &mut s)?;
             each(rt, &s[..n])
         }
         Err(error) => eprintln!(rt; "{name}: {error}"),

@@ -6,9 +6,9 @@ ghost use Rattle.std.specs.Prelude.{◌+◌, ◌^◌, ◌<◌, ◌≤◌, length
 ghost use Rattle.replay.specs.Inner.{Inside, list_space};
 
 use color::Rounding;
+use fill::read_full;
 use mapentry::Mapentry;
 use std::io;
-use std::io::Read;
 use tileset::{Logical, Native, Place, Set};
 use words::{Number, Written};
 
@@ -120,9 +120,7 @@ fn put_bytes(s: &[u8], out: &mut [u8]) -> usize
 }
 
 // The first n bytes of s, or all of them where there are fewer.
-fn front<'a>(s: &'a [u8], n: usize) -> &'a [u8]
-    ensures { length result.now ≤ n }
-{
+fn front<'a>(s: &'a [u8], n: usize) -> &'a [u8] {
     if s.len() < n {
         return s;
     }
@@ -625,7 +623,7 @@ fn report(rt: &impl Print, s: &[u8]) -> io::Result<()>
 }
 
 fn main(rt: HostRuntime) -> io::Result<()> {
-    let mut list = Vec::new(rt.alloc());
-    rt.stdin().take(LIST_SPACE as u64).read_to_end(&mut list)?;
-    report(&rt, front(&list, LIST_SPACE))
+    let mut list = [0u8; LIST_SPACE];
+    let n = read_full(&mut rt.stdin(), &mut list)?;
+    report(&rt, &list[..n])
 }

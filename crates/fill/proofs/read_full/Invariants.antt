@@ -1,0 +1,6 @@
+-- No more was read than the buffer holds.
+use Rattle.std.proofs.Common.{◌≤◌, length}
+use Rattle.fill.proofs.read_full.Given as goal
+
+abbrev pub invariant-loop : goal.invariant-loop
+invariant-loop g l = l.n ≤ length l.buf

@@ -1,0 +1,29 @@
+// What the programs read with: a buffer on the stack is filled, and no memory is asked for.
+#![tactic(auto)]
+
+ghost use Rattle.std.specs.Prelude.{◌≤◌, length, IfOk};
+
+use std::io;
+use std::io::{ErrorKind, Read};
+
+// Fills the buffer until it or what is read ends; how many bytes were read. A read that a signal broke off is tried again.
+pub fn read_full<R: Read>(reader: &mut R, buf: &mut [u8]) -> io::Result<usize>
+    ensures { IfOk result (λ n. n ≤ length buf.new) }
+{
+    let mut n: usize = 0;
+    for _ in 0..u64::MAX {
+        if n == buf.len() {
+            return Ok(n);
+        }
+        match reader.read(&mut buf[n..]) {
+            Ok(0) => return Ok(n),
+            Ok(k) => n += k,
+            Err(error) => {
+                if error.kind() != ErrorKind::Interrupted {
+                    return Err(error);
+                }
+            }
+        }
+    }
+    Ok(n)
+}
