@@ -1,14 +1,17 @@
 // What the programs read with: a buffer on the stack is filled, and no memory is asked for.
 #![tactic(auto)]
 
-ghost use Rattle.std.specs.Prelude.{◌≤◌, length, IfOk};
+ghost use Rattle.std.specs.Prelude.{◌≤◌, length, take, IfOk};
+ghost use Rattle.std.specs.Io.KnownBytes.{Consumes};
 
 use std::io;
 use std::io::{ErrorKind, Read};
 
-// Fills the buffer until it or what is read ends; how many bytes were read. A read that a signal broke off is tried again.
+// Fills the buffer until it or what is read ends; how many bytes were read. They stand at the front of the buffer, and the reader has given no other.
+// A read that a signal broke off is tried again.
 pub fn read_full<R: Read>(reader: &mut R, buf: &mut [u8]) -> io::Result<usize>
-    ensures { IfOk result (λ n. n ≤ length buf.new) }
+    ensures within { IfOk result (λ n. n ≤ length buf.new) }
+    ensures bytes { IfOk result (λ n. Consumes (R.remaining reader.old) (R.remaining reader.new) (take n buf.new)) }
 {
     let mut n: usize = 0;
     for _ in 0..u64::MAX {
