@@ -6,11 +6,14 @@ ghost use Rattle.std.specs.Prelude.{◌<◌, ◌≤◌, length};
 
 use fill::read_full;
 use sheet::Told;
+use std::env::FillError;
 use std::rt::{Env, Files};
-use std::{env, fs, io};
+use std::{fs, io, str};
 
-// The most bytes of a file.
+// The most bytes of a file, and of its name.
 const FILE_SPACE: usize = 131072;
+
+const NAME_SPACE: usize = 4096;
 
 fn title(rt: &impl Print, name: &[u8]) -> io::Result<()> {
     rt.write_all(b"== ")?;
@@ -101,9 +104,18 @@ fn file<R: Files + Print + Eprint + Alloc>(rt: &R, name: &str) -> io::Result<()>
     }
 }
 
+// What cannot name a file is told, and the next argument follows.
 fn files<R: Env + Files + Print + Eprint + Alloc>(rt: &R) -> io::Result<()> {
-    for name in env::args(rt)?.skip(1) {
-        file(rt, &name)?;
+    let mut name = [0u8; NAME_SPACE];
+    for i in 1..usize::MAX {
+        match rt.arg(i, &mut name) {
+            Ok(n) => match str::from_utf8(&name[..n]) {
+                Ok(text) => file(rt, text)?,
+                Err(_) => eprintln!(rt; "argument {i} is not UTF-8")?,
+            },
+            Err(FillError::NotPresent) => return Ok(()),
+            Err(FillError::TooLong) => eprintln!(rt; "argument {i} is too long")?,
+        }
     }
     Ok(())
 }

@@ -193,6 +193,8 @@ fn digits(s: &[u8]) -> Told
     Told::Value(n as u32)
 }
 
+const ZERO: u8 = b'0';
+
 // "No leading zero, 0 as `0`."
 pub fn number(s: &[u8]) -> Told
     ensures { result ≡ number_in s.now }
@@ -200,7 +202,7 @@ pub fn number(s: &[u8]) -> Told
     if s.len() == 0 {
         return Told::Nothing;
     }
-    if s[0] == b'0' {
+    if s[0] == ZERO {
         if s.len() == 1 {
             return Told::Value(0);
         }

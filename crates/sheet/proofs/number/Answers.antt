@@ -7,10 +7,10 @@ pub returns-then-s-eq0 : goal.returns-then-s-eq0
 returns-then-s-eq0 c = sym (number-none c.args.s.now c.if-s-eq0.true)
 
 pub returns-then-s-eq1 : goal.returns-then-s-eq1
-returns-then-s-eq1 c = sym (number-zero c.args.s.now c.if-s-eq0.false c.if-s-eq48.true c.if-s-eq1.true)
+returns-then-s-eq1 c = sym (number-zero c.args.s.now c.if-s-eq0.false c.if-s-eq-ZERO.true c.if-s-eq1.true)
 
-pub returns-then-s-eq48 : goal.returns-then-s-eq48
-returns-then-s-eq48 c = sym (number-leading c.args.s.now c.if-s-eq0.false c.if-s-eq48.true c.if-s-eq1.false)
+pub returns-then-s-eq-ZERO : goal.returns-then-s-eq-ZERO
+returns-then-s-eq-ZERO c = sym (number-leading c.args.s.now c.if-s-eq0.false c.if-s-eq-ZERO.true c.if-s-eq1.false)
 
 pub returns : goal.returns
-returns c = c.digits.ensures ∙ sym (number_digits c.args.s.now c.if-s-eq0.false c.if-s-eq48.false)
+returns c = c.digits.ensures ∙ sym (number_digits c.args.s.now c.if-s-eq0.false c.if-s-eq-ZERO.false)
