@@ -114,7 +114,7 @@
 
 #define RUMCHIVOAT_STACK_CONVERT 57344 /* rumchivoat_convert; _OTHERS where its settings or lengths refuse it */
 #define RUMCHIVOAT_STACK_STRIP 57344   /* rumchivoat_strip_take; _OTHERS where the record or a length refuses it */
-#define RUMCHIVOAT_STACK_RUN 196608    /* rumchivoat_run */
+#define RUMCHIVOAT_STACK_RUN 131072    /* rumchivoat_run */
 #define RUMCHIVOAT_STACK_OTHERS 8192   /* each of the others */
 
 #ifdef __cplusplus

@@ -22,7 +22,7 @@ pub const CONVERT: usize = 56 * 1024;
 pub const STRIP: usize = 56 * 1024;
 
 /// [`run`](crate::run), and [`run_to_vec`](crate::run_to_vec).
-pub const RUN: usize = 192 * 1024;
+pub const RUN: usize = 128 * 1024;
 
 /// Every other call.
 pub const OTHERS: usize = 8 * 1024;

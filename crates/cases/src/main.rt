@@ -2,10 +2,9 @@
 // length, its bytes and a newline. After a case's name stands what the program writes, and a newline.
 #![tactic(auto)]
 
-ghost use Rattle.std.specs.Prelude.{◌<◌, ◌≤◌, length};
+ghost use Rattle.std.specs.Prelude.{◌<◌, length, IfSome};
 
 use fill::read_full;
-use sheet::Told;
 use std::env::FillError;
 use std::rt::{Env, Files};
 use std::{fs, io, str};
@@ -23,52 +22,56 @@ fn title(rt: &impl Print, name: &[u8]) -> io::Result<()> {
 
 fn answer(rt: &impl Print, input: &[u8]) -> io::Result<()> {
     let mut out = [0u8; sheet::OUT_SPACE];
-    let r = sheet::run(input, &mut out);
-    let written = r.written;
-    rt.write_all(&out[..written])?;
+    let answer = sheet::run(input, &mut out);
+    rt.write_all(&out[..answer.written])?;
     rt.write_all(b"\n")
 }
 
-// A case: its name, what the program is given, and how many bytes the case takes. What is no case gives nothing and takes all.
+// The first line, and what stands after its newline.
+fn first_line<'a>(s: &'a [u8]) -> Option<(&'a [u8], &'a [u8])>
+    ensures { IfSome result (λ parts. length parts.1.now < length s.now) }
+{
+    let end = sheet::line_length(s);
+    let rest = s.get(end + 1..)?;
+    Some((&s[..end], rest))
+}
+
+// What the program is given in the case that starts s, and what stands after the case.
+fn input<'a>(s: &'a [u8]) -> Option<(&'a [u8], &'a [u8])>
+    ensures { IfSome result (λ parts. length parts.1.now < length s.now) }
+{
+    let (_, counted) = first_line(s)?;
+    let (digits, bytes) = first_line(counted)?;
+    let size = sheet::number(digits)? as usize;
+    let given = bytes.get(..size)?;
+    Some((given, bytes.get(size + 1..).unwrap_or(b"")))
+}
+
+// A case: its name, what the program is given, and what stands after it. What is no case gives nothing, and nothing stands after it.
 #[derive(Clone, Copy)]
 struct Case<'a> {
-    pub name: &'a [u8],
-    pub input: Option<&'a [u8]>,
-    pub takes: usize,
+    name: &'a [u8],
+    input: Option<&'a [u8]>,
+    rest: &'a [u8],
 }
 
 // The case that starts s.
 fn one<'a>(s: &'a [u8]) -> Case<'a>
-    requires { (0 < length s.now) × (length s.now ≤ 131072) }
-    ensures { (0 < result.takes) × (result.takes ≤ 131073) }
+    requires { 0 < length s.now }
+    ensures { length result.rest.now < length s.now }
 {
-    let named = sheet::line_length(s);
-    let name = &s[..named];
-    let none = Case {
-        name,
-        input: None,
-        takes: s.len(),
-    };
-    if s.len() <= named {
-        return none;
-    }
-    let counted = &s[named + 1..];
-    let digits = sheet::line_length(counted);
-    if counted.len() <= digits {
-        return none;
-    }
-    let Told::Value(n) = sheet::number(&counted[..digits]) else {
-        return none;
-    };
-    let bytes = &counted[digits + 1..];
-    let size = n as usize;
-    if bytes.len() < size {
-        return none;
-    }
-    Case {
-        name,
-        input: Some(&bytes[..size]),
-        takes: named + digits + size + 3,
+    let name = &s[..sheet::line_length(s)];
+    match input(s) {
+        Some((given, rest)) => Case {
+            name,
+            input: Some(given),
+            rest,
+        },
+        None => Case {
+            name,
+            input: None,
+            rest: b"",
+        },
     }
 }
 
@@ -81,14 +84,12 @@ fn show(rt: &impl Print, case: Case<'_>) -> io::Result<()> {
     }
 }
 
-fn each(rt: &impl Print, s: &[u8]) -> io::Result<()>
-    requires { length s.now ≤ 131072 }
-{
-    let mut at: usize = 0;
-    while at < s.len() {
-        let case = one(&s[at..]);
+fn each(rt: &impl Print, s: &[u8]) -> io::Result<()> {
+    let mut left = s;
+    while !left.is_empty() {
+        let case = one(left);
         show(rt, case)?;
-        at += case.takes;
+        left = case.rest;
     }
     Ok(())
 }

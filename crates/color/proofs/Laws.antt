@@ -1,6 +1,6 @@
 -- Document 01's laws of colours: both round trips, what unpacking says of packed bytes, and the laws of channels.
 -- Assumes nothing.
-use mathlib.Core.Path.{◌≡◌, refl, sym, ◌∙◌}
+use mathlib.Core.Path.{◌≡◌, refl}
 use mathlib.Core.Bool.{not, ◌&&◌}
 use mathlib.Core.List.{List, [], ◌∷◌}
 use Prim.Native.Nat.{ℕ, ◌+◌, ◌*◌, ◌/◌, ◌<◌, ◌≤◌}
@@ -14,11 +14,10 @@ use Rattle.words.proofs.Answers.{all-passed, not-given}
 use Rattle.mode.specs.Table.{row, ngp}
 use Rattle.color.specs.Color.{Returning, coloring, pack_says, packed, unpack_says, values_in, unpacked}
 use Rattle.color.specs.Channel.{reduced, scaled_up, scale_says}
-use Rattle.color.specs.Inner.{places_of}
 use Rattle.color.specs.declared.Rounding.{Rounding}
 use Rattle.color.specs.declared.Rounding.TheVariants.{Nearest}
-use Rattle.color.proofs.Packing.{packs, pack-by-places, length-packed}
-use Rattle.color.proofs.Unpacking.{unpacks, readable-right, unpack-by-places}
+use Rattle.color.proofs.Packing.{packs, length-packed}
+use Rattle.color.proofs.Unpacking.{unpacks}
 use Rattle.color.proofs.Channels.{component-back}
 use Rattle.color.proofs.Trips.{pack-mode, unpack-mode, back-case, again-either, count-case, accepted}
 
@@ -26,15 +25,14 @@ use Rattle.color.proofs.Trips.{pack-mode, unpack-mode, back-case, again-either, 
 pub colors-return : (m : ℕ) (cs : List ℕ) (space : ℕ) → pack_says m cs space ≡ 0 → Returning m cs → unpacked m (packed m cs) ≡ cs
 colors-return m cs space e r =
     let h = pack-mode m cs space e in
-    back-case m h cs space (packs (places_of m) cs space (sym (pack-by-places m cs space h) ∙ e)) r (coloring m).four refl
+    back-case m h cs space (packs m cs space e) r (coloring m).four refl
 
 -- "Bytes return where unused bits are 0."
 pub bytes-return : (m : ℕ) (bs : List ℕ) (space : ℕ) → unpack_says m (length bs) space ≡ 0 → T (are_bytes bs)
     → ((i : ℕ) → i < length bs / (coloring m).size → get_or (values_in m bs i) 5 0 ≡ 0) → packed m (unpacked m bs) ≡ bs
 bytes-return m bs space e b clear =
     let h = unpack-mode m (length bs) space e in
-    let u = unpacks (places_of m) (length bs) space (sym (unpack-by-places m (length bs) space h) ∙ e) in
-    again-either m h bs (readable-right m h (length bs) ∙ u.whole) b clear (coloring m).four refl
+    again-either m h bs (unpacks m (length bs) space e).whole b clear (coloring m).four refl
 
 -- "For ngp only where there are four": nothing else is refused but a buffer too short.
 pub unpack-packed : (m : ℕ) (cs : List ℕ) (space : ℕ) → pack_says m cs space ≡ 0 → (free : ℕ)
@@ -43,7 +41,7 @@ unfolding unpack_says
 unpack-packed m cs space e free =
     let h = pack-mode m cs space e in
     let le : m ≤ 15 = omega arith in
-    let p = packs (places_of m) cs space (sym (pack-by-places m cs space h) ∙ e) in
+    let p = packs m cs space e in
     rw (le-ltb 15 m le, count-case m h cs space p (coloring m).four refl, length-packed m cs, accepted m h (length cs) p.whole)
 
 -- "255 x result differs from value x m by at most 127."

@@ -1,15 +1,14 @@
 -- Packing: what passed checks say, and that the words which the code makes are document 01's.
 -- Assumes nothing.
 use mathlib.Core.Path.{◌≡◌, refl, sym, ap}
-use mathlib.Core.Bool.{Bool, true, false, not, cond, ◌||◌}
+use mathlib.Core.Bool.{Bool, true, false, cond, ◌||◌}
 use mathlib.Core.List.{List, [], ◌∷◌}
 use Prim.Native.Nat.{ℕ, zero, suc, ◌+◌, ◌*◌, ◌-◌, ◌/◌, ◌^◌, ◌<◌, ◌≤◌}
 use native.Mathlib.Omega.{arith}
 use lib.Dec.{eqb, ltb, eqb→eq}
 use lib.ListN.{length, get_or}
 use lib.Pow.{pow_pos}
-use borrow.Author.Tests.{ltb-false, lt-ltb, le-ltb, eqb-true, not-false}
-use Rattle.words.specs.Answers.{◌when◌}
+use borrow.Author.Tests.{ltb-false, lt-ltb, eqb-true, not-false}
 use Rattle.words.specs.Bytes.{bytes_of}
 use Rattle.words.specs.Fields.{Field, join}
 use Rattle.words.specs.Inner.{bits_for, all}
@@ -19,9 +18,9 @@ use Rattle.words.proofs.Bytes.{length-bytes}
 use Rattle.words.proofs.Fields.{Held}
 use Rattle.words.proofs.Loops.{all-at, length-each}
 use Rattle.mode.specs.Table.{row}
-use Rattle.color.specs.Color.{coloring, above, packable, packed_size, pack_says, values_of, four_values, bytes_with, packed}
-use Rattle.color.specs.Inner.{places_of, placed_pack_says, color_word, four_word, color_bytes, AllWithin}
-use Rattle.color.specs.declared.ColorPlaces.{ColorPlaces}
+use Rattle.color.specs.Color.{coloring, above, packable, packed_size, pack_says, pack_checks, values_of, four_values, bytes_with, packed}
+use Rattle.color.specs.Inner.{color_word, four_word, color_bytes, AllWithin}
+use Rattle.color.specs.declared.color_places.ColorPlaces.{ColorPlaces}
 use Rattle.words.proofs.Items.{neither_left, neither_right, none-at, each-eq}
 use Rattle.color.proofs.Places.{has, joined}
 
@@ -38,10 +37,6 @@ module _ (top : ℕ) (cs : List ℕ) (i : ℕ) (low : above top cs i ≡ false) 
 
   pub blue-low : get_or cs (4 * i + 2) 0 ≤ top
   blue-low = ltb-false top _ (neither_right (ltb top (get_or cs (4 * i + 1) 0)) (ltb top (get_or cs (4 * i + 2) 0)) others)
-
--- of n colours that are within, the red of each
-pub red-within : (top : ℕ) (cs : List ℕ) (n : ℕ) → AllWithin top cs n → (i : ℕ) → i < n → get_or cs (4 * i) 0 ≤ top
-red-within top cs n w i lt = red-low top cs i (none-at n (above top cs) w.low i lt)
 
 -- the bits of each hold every number up to the top
 pub width : (m : ℕ) → m < 16 → (k : ℕ) → k < 5 → 2 ^ bits_for k (coloring m).fields ≡ cond (has (coloring m) k) ((row m).top + 1) 1
@@ -84,15 +79,6 @@ module _ (m : ℕ) (h : m < 16) (cs : List ℕ) where
     pub values-held : Held (coloring m).fields (values_of m cs i)
     values-held = values-case (coloring m).gray refl
 
-    word-case : (b : Bool) → (coloring m).gray ≡ b → color_word (places_of m) cs i ≡ join (coloring m).fields (values_of m cs i)
-    word-case true e =
-        rw e (joined m h ((row m).top - get_or cs (4 * i) 0) 0 0 0 (rw e at values-held))
-    word-case false e =
-        rw e (joined m h (get_or cs (4 * i) 0) (get_or cs (4 * i + 1) 0) (get_or cs (4 * i + 2) 0) 0 (rw e at values-held))
-
-    color-bytes : color_bytes (places_of m) cs i ≡ bytes_with m (values_of m cs i)
-    color-bytes = ap (λ (w : ℕ). bytes_of (coloring m).size (coloring m).most w) (word-case (coloring m).gray refl)
-
   -- so are four
   module _ (many : (coloring m).four ≡ true) where
     four-width : (k : ℕ) → k < 4 → (r : ℕ) → (row m).top - r < 2 ^ bits_for k (coloring m).fields
@@ -103,15 +89,31 @@ module _ (m : ℕ) (h : m < 16) (cs : List ℕ) where
         held (coloring m).fields ((row m).top - get_or cs 0 0) ((row m).top - get_or cs 4 0) ((row m).top - get_or cs 8 0) ((row m).top - get_or cs 12 0)
         (four-width 0 (omega arith) (get_or cs 0 0)) (four-width 1 (omega arith) (get_or cs 4 0)) (four-width 2 (omega arith) (get_or cs 8 0)) (four-width 3 (omega arith) (get_or cs 12 0))
 
-    pub packed-four : bytes_of (coloring m).size (coloring m).most (four_word (places_of m) cs) ≡ packed m cs
-    packed-four =
-        rw (packed_all m cs many)
-        (ap (λ (w : ℕ). bytes_of (coloring m).size (coloring m).most w) (joined m h ((row m).top - get_or cs 0 0) ((row m).top - get_or cs 4 0) ((row m).top - get_or cs 8 0) ((row m).top - get_or cs 12 0) four-held))
+-- the words of the code's places
+module _ (l : ColorPlaces) (cs : List ℕ) where
+  word-case : (i : ℕ) → (coloring l.mode).four ≡ false → above (row l.mode).top cs i ≡ false → (b : Bool) → (coloring l.mode).gray ≡ b → color_word l cs i ≡ join (coloring l.mode).fields (values_of l.mode cs i)
+  word-case i one low true e =
+      rw (l.gray_is, l.top_is, e)
+      (joined l ((row l.mode).top - get_or cs (4 * i) 0) 0 0 0 (rw e at (values-held l.mode l.is_mode cs one i low)))
+  word-case i one low false e =
+      rw (l.gray_is, e)
+      (joined l (get_or cs (4 * i) 0) (get_or cs (4 * i + 1) 0) (get_or cs (4 * i + 2) 0) 0 (rw e at (values-held l.mode l.is_mode cs one i low)))
 
-  pub packed-words : (coloring m).four ≡ false → some (length cs / 4) (above (row m).top cs) ≡ false → each (length cs / 4) (color_bytes (places_of m) cs) ≡ packed m cs
-  packed-words one low =
+  pub packs-words : l.four ≡ false → some (length cs / 4) (above l.top cs) ≡ false → each (length cs / 4) (color_bytes l cs) ≡ packed l.mode cs
+  packs-words single none =
+      let m = l.mode in
+      let one = rw l.four_is at single in
+      let low = rw l.top_is at none in
       rw (packed-one m cs one)
-      (each-eq (length cs / 4) (color_bytes (places_of m) cs) (λ i. bytes_with m (values_of m cs i)) (λ i lt. color-bytes one i (none-at (length cs / 4) (above (row m).top cs) low i lt)))
+      (each-eq (length cs / 4) (color_bytes l cs) (λ i. bytes_with m (values_of m cs i))
+      (λ i lt. rw (l.size_is, l.most_is) (ap (λ (w : ℕ). bytes_of (coloring m).size (coloring m).most w) (word-case i one (none-at (length cs / 4) (above (row m).top cs) low i lt) (coloring m).gray refl))))
+
+  pub packs-four : l.four ≡ true → bytes_of l.size l.most (four_word l cs) ≡ packed l.mode cs
+  packs-four all =
+      let m = l.mode in
+      let many = rw l.four_is at all in
+      rw (packed_all m cs many, l.size_is, l.most_is, l.top_is)
+      (ap (λ (w : ℕ). bytes_of (coloring m).size (coloring m).most w) (joined l ((row m).top - get_or cs 0 0) ((row m).top - get_or cs 4 0) ((row m).top - get_or cs 8 0) ((row m).top - get_or cs 12 0) (four-held m l.is_mode cs many)))
 
 -- how many bytes there are
 length-case : (m : ℕ) (cs : List ℕ) (b : Bool) → (coloring m).four ≡ b → length (packed m cs) ≡ packed_size (coloring m).four (coloring m).size (length cs)
@@ -122,55 +124,35 @@ length-case m cs false e =
 pub length-packed : (m : ℕ) (cs : List ℕ) → length (packed m cs) ≡ packed_size (coloring m).four (coloring m).size (length cs)
 length-packed m cs = length-case m cs (coloring m).four refl
 
--- the checks that go by the places are those that go by the mode
 pub pack-no-mode : (m : ℕ) (cs : List ℕ) (space : ℕ) → 15 < m → pack_says m cs space ≡ 1
 unfolding pack_says
 pack-no-mode m cs space h = rw (lt-ltb 15 m h)
 
-pub pack-by-places : (m : ℕ) (cs : List ℕ) (space : ℕ) → m < 16 → pack_says m cs space ≡ placed_pack_says (places_of m) cs space
-unfolding pack_says placed_pack_says
-pack-by-places m cs space h =
-    let le : m ≤ 15 = omega arith in
-    rw (le-ltb 15 m le)
-
 -- what no refusal says
-pub record Packs (l : ColorPlaces) (cs : List ℕ) (space : ℕ) : Type 0 where
-  pub whole : packable l.four (length cs) ≡ true
-  pub low : some (length cs / 4) (above l.top cs) ≡ false
-  pub fits : packed_size l.four l.size (length cs) ≤ space
+pub record Packs (m : ℕ) (cs : List ℕ) (space : ℕ) : Type 0 where
+  pub whole : packable (coloring m).four (length cs) ≡ true
+  pub low : some (length cs / 4) (above (row m).top cs) ≡ false
+  pub fits : packed_size (coloring m).four (coloring m).size (length cs) ≤ space
 
-pub packs : (l : ColorPlaces) (cs : List ℕ) (space : ℕ) → placed_pack_says l cs space ≡ 0 → Packs l cs space
-unfolding placed_pack_says
-packs l cs space e =
-    let seven = 7 when not (packable l.four (length cs)) in
-    let nine = 9 when some (length cs / 4) (above l.top cs) in
-    let eleven = 11 when ltb space (packed_size l.four l.size (length cs)) in
-    let passed = all-passed (seven ∷ nine ∷ eleven ∷ []) e in
+pub packs : (m : ℕ) (cs : List ℕ) (space : ℕ) → pack_says m cs space ≡ 0 → Packs m cs space
+unfolding pack_says
+packs m cs space e =
+    let passed = all-passed (pack_checks m cs space) e in
     record {
-      whole = not-false _ (not-given 6 _ (passed 0));
-      low = not-given 8 _ (passed 1);
-      fits = ltb-false _ _ (not-given 10 _ (passed 2));
+      whole = not-false _ (not-given 6 _ (passed 1));
+      low = not-given 8 _ (passed 2);
+      fits = ltb-false _ _ (not-given 10 _ (passed 3));
     }
 
--- so the colours of a word of four are there, and so are all
-pub four-within : (l : ColorPlaces) (cs : List ℕ) (space : ℕ) → Packs l cs space → l.four ≡ true → AllWithin l.top cs 4
-four-within l cs space p many =
-    let all : length cs ≡ 16 = eqb-true (length cs) 16 (rw many at p.whole) in
-    record { there = omega arith; low = rw all at p.low }
+module _ (l : ColorPlaces) (cs : List ℕ) where
+  -- so the colours of a word of four are there, and so are all
+  pub four-within : (space : ℕ) → Packs l.mode cs space → l.four ≡ true → AllWithin l.top cs 4
+  four-within space p many =
+      let all : length cs ≡ 16 = eqb-true (length cs) 16 (rw (← l.four_is, many) at p.whole) in
+      record { there = omega arith; low = rw (← l.top_is, all) at p.low }
 
-pub words-within : (l : ColorPlaces) (cs : List ℕ) (space : ℕ) → Packs l cs space → AllWithin l.top cs (length cs / 4)
-words-within l cs space p = record { there = omega arith; low = p.low }
+  pub words-within : (space : ℕ) → Packs l.mode cs space → AllWithin l.top cs (length cs / 4)
+  words-within space p = record { there = omega arith; low = rw (← l.top_is) at p.low }
 
--- the code's places are the mode's
-module _ (m : ℕ) (h : m < 16) (cs : List ℕ) (l : ColorPlaces) (is : l ≡ places_of m) where
-  pub packs-says : (space : ℕ) → placed_pack_says l cs space ≡ pack_says m cs space
-  packs-says space = rw is (sym (pack-by-places m cs space h))
-
-  pub packs-size : packed_size l.four l.size (length cs) ≡ length (packed m cs)
-  packs-size = rw is (sym (length-packed m cs))
-
-  pub packs-four : l.four ≡ true → bytes_of l.size l.most (four_word l cs) ≡ packed m cs
-  packs-four many = rw is (packed-four m h cs (rw is at many))
-
-  pub packs-words : l.four ≡ false → some (length cs / 4) (above l.top cs) ≡ false → each (length cs / 4) (color_bytes l cs) ≡ packed m cs
-  packs-words one low = rw is (packed-words m h cs (rw is at one) (rw is at low))
+  pub packs-size : packed_size l.four l.size (length cs) ≡ length (packed l.mode cs)
+  packs-size = rw (l.four_is, l.size_is) (sym (length-packed l.mode cs))

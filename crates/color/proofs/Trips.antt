@@ -19,7 +19,6 @@ use Rattle.words.proofs.Loops.{all-at}
 use Rattle.mode.specs.Table.{row, ngp}
 use Rattle.mode.proofs.ByMode.{by_mode}
 use Rattle.color.specs.Color.{Returning, coloring, above, packable, pack_says, values_of, four_values, bytes_with, packed, unpackable, color_count, unpack_says, values_in, shade, color_with, four_with, unpacked}
-use Rattle.color.specs.Inner.{places_of}
 use Rattle.words.proofs.Items.{none-at, each-eq, item-inside, item-at, item-get_or, whole_parts}
 use Rattle.color.proofs.Places.{has}
 use Rattle.color.proofs.Packing.{Packs, pack-no-mode, width, red-low, values-held, four-held, packed-one, packed_all, length-packed}
@@ -78,7 +77,7 @@ gray-at m cs (suc (suc zero)) lt = refl
 gray-at m cs (suc (suc (suc zero))) lt = refl
 gray-at m cs (suc (suc (suc (suc i)))) lt = omega arith
 
-module _ (m : ℕ) (h : m < 16) (cs : List ℕ) (space : ℕ) (p : Packs (places_of m) cs space) (r : Returning m cs) where
+module _ (m : ℕ) (h : m < 16) (cs : List ℕ) (space : ℕ) (p : Packs m cs space) (r : Returning m cs) where
   module _ (i : ℕ) (lt : i < length cs / 4) where
     red : get_or cs (4 * i) 0 ≤ (row m).top
     red = red-low (row m).top cs i (none-at (length cs / 4) (above (row m).top cs) p.low i lt)
@@ -250,7 +249,7 @@ module _ (m : ℕ) (h : m < 16) (bs : List ℕ) (whole : unpackable m (length bs
 -- ---- unpacking what was packed
 
 -- as many bytes as four a colour
-module _ (m : ℕ) (h : m < 16) (cs : List ℕ) (space : ℕ) (p : Packs (places_of m) cs space) where
+module _ (m : ℕ) (h : m < 16) (cs : List ℕ) (space : ℕ) (p : Packs m cs space) where
   pub count-case : (b : Bool) → (coloring m).four ≡ b → 4 * color_count (coloring m).four (coloring m).size (length (packed m cs)) ≡ length cs
   count-case true e = rw e (sym (eqb-true (length cs) 16 (rw e at p.whole)))
   count-case false e =

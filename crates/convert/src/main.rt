@@ -8,7 +8,6 @@ fn main(rt: HostRuntime) -> io::Result<()> {
     let mut input = [0u8; sheet::INPUT_SPACE];
     let mut out = [0u8; sheet::OUT_SPACE];
     let size = read_full(&mut rt.stdin(), &mut input)?;
-    let r = sheet::run(&input[..size], &mut out);
-    let written = r.written;
-    rt.write_all(&out[..written])
+    let answer = sheet::run(&input[..size], &mut out);
+    rt.write_all(&out[..answer.written])
 }

@@ -14,6 +14,8 @@ pub fn read_full<R: Read>(reader: &mut R, buf: &mut [u8]) -> io::Result<usize>
     ensures bytes { IfOk result (λ n. Consumes (R.remaining reader.old) (R.remaining reader.new) (take n buf.new)) }
 {
     let mut n: usize = 0;
+
+    // Signals may break off a read any number of times, and a loop has to end: so many reads never come.
     for _ in 0..u64::MAX {
         if n == buf.len() {
             return Ok(n);

@@ -4,7 +4,7 @@ use mathlib.Core.Path.{◌≡◌, refl, sym, ap, ◌∙◌}
 use mathlib.Core.Bool.{Bool, true, false}
 use mathlib.Core.List.{List}
 use mathlib.Core.Logic.{⊎_elim}
-use Prim.Native.Nat.{ℕ, ◌+◌, ◌-◌, ◌%◌, ◌<◌, ◌≤◌}
+use Prim.Native.Nat.{ℕ, ◌+◌, ◌-◌, ◌<◌, ◌≤◌}
 use native.Mathlib.Nat.{add_assoc, eq-zero-or-pos}
 use native.Mathlib.Omega.{arith}
 use lib.ListN.{get_or}
@@ -15,16 +15,9 @@ use Rattle.flip.specs.Inner.{RowAgrees, eight_from}
 
 -- ---- where the eight pixels stand
 
-pub from-turned : (across : Bool) (w x : ℕ) → across ≡ true → w - 8 - x ≡ eight_from across w x
-from-turned across w x up = rw up refl
-
 eight-place : (across : Bool) (w x k : ℕ) → x + 8 ≤ w → k < 8 → eight_from across w x + turned across 8 k ≡ turned across w (x + k)
 eight-place true w x k p q = omega arith
 eight-place false w x k p q = refl
-
--- a place of a row of eights has eight
-pub eight-left : (w x : ℕ) → w % 8 ≡ 0 → x % 8 ≡ 0 → x < w → x + 8 ≤ w
-eight-left w x p q r = omega arith
 
 module _ (across : Bool) (store tile : List ℕ) (from i w x : ℕ) (room : x + 8 ≤ w) where
   there : (k : ℕ) → k < 8 → eight_at across store (from + eight_from across w x) k ≡ get_or store (from + turned across w (x + k)) 0

@@ -10,8 +10,7 @@ use Rattle.words.specs.Bytes.{same}
 use Rattle.flip.specs.Flips.{flip, flipped, after}
 use Rattle.flip.specs.Matching.{first_flip, match_flip, is_under, matches}
 use Rattle.flip.specs.declared.Flip.{Flip}
-use Rattle.flip.specs.declared.Match.{Match}
-use Rattle.flip.specs.declared.Match.TheVariants.{Under, Never}
+use Rattle.std.specs.Prelude.{Option, Some, None}
 use Rattle.flip.proofs.Group.{flipped-flipped, flipped-none, flipped-back}
 use Rattle.flip.proofs.Rows.{eq-same, true_same}
 
@@ -41,9 +40,9 @@ module _ (on : Bool) (w h : ℕ) where
   Matches a b = (f : Flip) × Takes a b f
 
   -- what an answer says of two tiles
-  abbrev pub Told : List ℕ → List ℕ → Match → Type 0
-  Told a b (Under f) = Takes a b f
-  Told a b Never = Matches a b → ⊥
+  abbrev pub Told : List ℕ → List ℕ → Option Flip → Type 0
+  Told a b (Some f) = Takes a b f
+  Told a b None = Matches a b → ⊥
 
   module _ (a b : List ℕ) where
     abbrev is : Flip → Bool
@@ -55,7 +54,7 @@ module _ (on : Bool) (w h : ℕ) where
     miss : (f : Flip) → is f ≡ false → flipped f w h a ≡ b → ⊥
     miss f e q = not-both (sym e ∙ eq-same (flipped f w h a) b q)
 
-    cases : (P : Match → Type 0) (c : Bool) (x y : Match) → (c ≡ true → P x) → (c ≡ false → P y) → P (cond c x y)
+    cases : (P : Option Flip → Type 0) (c : Bool) (x y : Option Flip) → (c ≡ true → P x) → (c ≡ false → P y) → P (cond c x y)
     cases P true x y p q = p refl
     cases P false x y p q = q refl
 
@@ -81,13 +80,13 @@ module _ (on : Bool) (w h : ℕ) where
     unfolding match_flip
     match-told = cases (Told a b) (is (flip false false)) _ _ (hit (flip false false) (allowed-none on)) (tried on refl)
 
-    told_under : (m : Match) → Told a b m → is_under m ≡ true → Matches a b
-    told_under (Under f) t e = (f, t)
-    told_under Never t e = not-both e
+    told_under : (m : Option Flip) → Told a b m → is_under m ≡ true → Matches a b
+    told_under (Some f) t e = (f, t)
+    told_under None t e = not-both e
 
-    told-never : (m : Match) → Told a b m → Matches a b → is_under m ≡ true
-    told-never (Under f) t k = refl
-    told-never Never t k = absurd (t k)
+    told-never : (m : Option Flip) → Told a b m → Matches a b → is_under m ≡ true
+    told-never (Some f) t k = refl
+    told-never None t k = absurd (t k)
 
     pub matches-true : matches on w h a b ≡ true → Matches a b
     matches-true e = told_under (match_flip on w h a b) match-told e

@@ -8,17 +8,20 @@ ghost use Rattle.flip.specs.Matching.{match_flip};
 ghost use Rattle.flip.specs.Inner.{RowAs, Compares, ComparesRow, eight_from};
 
 // Which way a tile is turned: h reverses each row, v the order of rows.
-#[derive(Clone, Copy)]
+#[derive(Clone, Copy, Debug, PartialEq, Eq)]
 pub struct Flip {
     pub h: bool,
     pub v: bool,
 }
 
-// The flip under which one tile is another, or none.
-#[derive(Clone, Copy)]
-pub enum Match {
-    Under(Flip),
-    Never,
+impl Flip {
+    pub const IDENTITY: Flip = Flip { h: false, v: false };
+
+    pub const H: Flip = Flip { h: true, v: false };
+
+    pub const V: Flip = Flip { h: false, v: true };
+
+    pub const HV: Flip = Flip { h: true, v: true };
 }
 
 // Place x of n, counted from the other end where the flip is on.
@@ -33,6 +36,7 @@ pub fn turned(on: bool, n: usize, x: usize) -> usize
 }
 
 // Where the pixel at place i of a flipped 8x8 tile stands in the tile.
+#[tactic(auto, unfolding(crate::specs::Flips::flip_at))]
 pub fn flip_at(f: Flip, i: usize) -> usize
     requires { i < 64 }
     ensures { (result ≡ flip_at f 8 8 i) × (result < 64) }
@@ -56,18 +60,18 @@ fn same_row(store: &[u8], from: usize, tile: &[u8], i: usize, width: usize, acro
     requires { ComparesRow store.now from tile.now i width }
     ensures { RowAs across store.now from tile.now i width result }
 {
-    let mut x = 0;
-    while x < width {
+    for k in 0..width / 8 {
+        let x = k * 8;
         let stored = words::word_at(store, from + eight_from(across, width, x), across);
         if stored != words::word_at(tile, i + x, false) {
             return false;
         }
-        x += 8;
     }
     true
 }
 
-// Whether the tile that stands at place at of the store is the given tile under the flip: row by row, at flipped places.
+// Whether the tile that stands at place at of the store is the given tile under the flip: row by row, at flipped places. What is compared comes as
+// plain parameters, here and below: callers pass them on as they have them, and a struct would be made for one call and taken apart in it.
 pub fn same_flipped(
     store: &[u8],
     at: usize,
@@ -79,18 +83,18 @@ pub fn same_flipped(
     requires { Compares store.now at tile.now width height }
     ensures { result ≡ same (flipped f width height (take (width * height) (drop at store.now))) tile.now }
 {
-    let mut y = 0;
-    while y < height {
+    for y in 0..height {
         let from = at + turned(f.v, height, y) * width;
         if !same_row(store, from, tile, y * width, width, f.h) {
             return false;
         }
-        y += 1;
     }
     true
 }
 
-// The first of identity, h, v, hv under which the tile at place at of the store is the given tile; the identity alone with flips off.
+// The first of identity, h, v, hv under which the tile at place at of the store is the given tile; the identity alone with flips off. They are tried
+// one after the other and not in a loop, so that each comparison is compiled for its flip: a loop over the four takes twice as long.
+#[tactic(auto, unfolding(crate::specs::Matching::match_flip))]
 pub fn match_flip(
     store: &[u8],
     at: usize,
@@ -98,28 +102,25 @@ pub fn match_flip(
     width: usize,
     height: usize,
     flips: bool,
-) -> Match
+) -> Option<Flip>
     requires { Compares store.now at tile.now width height }
     ensures { result ≡ match_flip flips width height (take (width * height) (drop at store.now)) tile.now }
 {
-    let identity = Flip { h: false, v: false };
-    if same_flipped(store, at, tile, width, height, identity) {
-        return Match::Under(identity);
+    let same = |f| same_flipped(store, at, tile, width, height, f);
+    if same(Flip::IDENTITY) {
+        return Some(Flip::IDENTITY);
     }
     if !flips {
-        return Match::Never;
+        return None;
     }
-    let h = Flip { h: true, v: false };
-    if same_flipped(store, at, tile, width, height, h) {
-        return Match::Under(h);
+    if same(Flip::H) {
+        return Some(Flip::H);
     }
-    let v = Flip { h: false, v: true };
-    if same_flipped(store, at, tile, width, height, v) {
-        return Match::Under(v);
+    if same(Flip::V) {
+        return Some(Flip::V);
     }
-    let hv = Flip { h: true, v: true };
-    if same_flipped(store, at, tile, width, height, hv) {
-        return Match::Under(hv);
+    if same(Flip::HV) {
+        return Some(Flip::HV);
     }
-    Match::Never
+    None
 }

@@ -12,8 +12,7 @@ use lib.Seq.{take-suc, take-length, length-take-le, get_or-take}
 use borrow.Author.Tests.{eqb-true}
 use Rattle.words.proofs.Loops.{or-true}
 use Rattle.flip.specs.Matching.{match_flip, is_under, matches}
-use Rattle.flip.specs.declared.Match.{Match}
-use Rattle.flip.specs.declared.Match.TheVariants.{Under, Never}
+use Rattle.std.specs.Prelude.{Option, Some, None}
 use Rattle.flip.proofs.Equivalence.{matches-trans, not-both}
 use Rattle.tileset.specs.Finding.{logical, found_or, look_up, is_found}
 use Rattle.tileset.specs.Matched.{matches_some}
@@ -21,19 +20,21 @@ use Rattle.tileset.specs.declared.Found.{Found}
 use Rattle.tileset.specs.declared.Found.TheVariants.{At, Nothing}
 use Rattle.tileset.proofs.Matched.{look-some}
 use Rattle.tileset.proofs.Search.{or_else, look-append}
-use Rattle.index.specs.Inner.{bucket_of, Skip, Gap, Indexed, link_of, Searches}
+use Rattle.index.specs.Inner.{key_at, head_at, next_at, bucket_of, Skip, Gap, Indexed, link_of, Searches}
+use Rattle.index.specs.declared.Index.{Index}
+use Rattle.flip.specs.declared.Flip.{Flip}
 use Rattle.index.proofs.Keys.{matches-key}
 
-module _ (on : Bool) (tiles : List (List ℕ)) (keys heads next : List ℕ) (x : Indexed on tiles keys heads next) (b k : ℕ) (p : k < length tiles) where
-  link-case : (q : Bool) → eqb (get_or keys k 0 % 4096) b ≡ q → (cond q (get_or next k 0) k ≤ k) × Gap on tiles b (cond q (get_or next k 0) k) k
+module _ (on : Bool) (tiles : List (List ℕ)) (x : Index) (i : Indexed on tiles x) (b k : ℕ) (p : k < length tiles) where
+  link-case : (q : Bool) → eqb (key_at x k % 4096) b ≡ q → (cond q (next_at x k) k ≤ k) × Gap on tiles b (cond q (next_at x k) k) k
   link-case true e =
-      let same : bucket_of on (get_or tiles k []) ≡ b = ap (λ (n : ℕ). n % 4096) (sym (x.keyed k p)) ∙ eqb-true (get_or keys k 0 % 4096) b e in
-      (x.next_low k p, subst (λ (n : ℕ). Gap on tiles n (get_or next k 0) k) same (x.next_gap k p))
+      let same : bucket_of on (get_or tiles k []) ≡ b = ap (λ (n : ℕ). n % 4096) (sym (i.keyed k p)) ∙ eqb-true (key_at x k % 4096) b e in
+      (i.next_low k p, subst (λ (n : ℕ). Gap on tiles n (next_at x k) k) same (i.next_gap k p))
   link-case false e = (omega arith, λ j q r. absurd (omega arith))
 
-  pub link-gap : (link_of keys next b k ≤ k) × Gap on tiles b (link_of keys next b k) k
+  pub link-gap : (link_of x b k ≤ k) × Gap on tiles b (link_of x b k) k
   unfolding link_of
-  link-gap = link-case (eqb (get_or keys k 0 % 4096) b) refl
+  link-gap = link-case (eqb (key_at x k % 4096) b) refl
 
 -- ---- one of some tiles matches
 
@@ -57,10 +58,10 @@ some-where on w h (a ∷ rest) t e = where-case on w h a rest t (matches on w h 
 -- ---- a look-up from the last tile to the first
 
 module _ (on : Bool) (t : List ℕ) where
-  or-over : (q : Found) (m : Match) (k : ℕ) (r : Found) → or_else (or_else q (found_or m k Nothing)) r ≡ or_else q (found_or m k r)
+  or-over : (q : Found) (m : Option Flip) (k : ℕ) (r : Found) → or_else (or_else q (found_or m k Nothing)) r ≡ or_else q (found_or m k r)
   or-over (At j f) m k r = refl
-  or-over Nothing (Under f) k r = refl
-  or-over Nothing Never k r = refl
+  or-over Nothing (Some f) k r = refl
+  or-over Nothing None k r = refl
 
   or_nothing : (q : Found) → or_else q Nothing ≡ q
   or_nothing (At k f) = refl
@@ -99,13 +100,13 @@ module _ (on : Bool) (t : List ℕ) where
         found-or (look_up on 8 8 (take k tiles) t) r s
         (look-some on 8 8 (take k tiles) t ∙ some_at on 8 8 (take k tiles) t i (omega (arith, length-take-le k tiles l)) (rw (get_or-take k tiles i [] p) m))
 
-    skip-case : (k : ℕ) (r : Found) (m : Match) → k < length tiles → Skip on tiles (bucket_of on t) k → match_flip on 8 8 (get_or tiles k []) t ≡ m
+    skip-case : (k : ℕ) (r : Found) (m : Option Flip) → k < length tiles → Skip on tiles (bucket_of on t) k → match_flip on 8 8 (get_or tiles k []) t ≡ m
         → below k (found_or m k r) ≡ below k r
-    skip-case k r (Under f) p s e =
+    skip-case k r (Some f) p s e =
         let here : matches on 8 8 (get_or tiles k []) t ≡ true = ap is_under e in
         let w = s (ap (λ (n : ℕ). n % 4096) (matches-key on (get_or tiles k []) t here)) in
         shaded k w.0 (At (logical k) f) r (omega arith) w.1 (matches-trans on 8 8 (omega arith) (get_or tiles w.0 []) (get_or tiles k []) t w.2 here)
-    skip-case k r Never p s e = refl
+    skip-case k r None p s e = refl
 
     skip : (k : ℕ) (r : Found) → k < length tiles → Skip on tiles (bucket_of on t) k → below (suc k) r ≡ below k r
     skip k r p s = over k r p ∙ skip-case k r (match_flip on 8 8 (get_or tiles k []) t) p s refl
@@ -135,40 +136,40 @@ pub record Searching (on : Bool) (tiles : List (List ℕ)) (t : List ℕ) (l : �
   pub low : l ≤ length tiles
   pub is : look_up on 8 8 tiles t ≡ below on t tiles l r
 
-module _ (on : Bool) (tiles : List (List ℕ)) (keys heads next t : List ℕ) (q : ℕ) (z : Searches on tiles keys heads next t q) where
+module _ (on : Bool) (tiles : List (List ℕ)) (x : Index) (t : List ℕ) (q : ℕ) (z : Searches on tiles x t q) where
   bucket-is : (b : ℕ) → b ≡ q % 4096 → b ≡ bucket_of on t
   bucket-is b e = e ∙ ap (λ (n : ℕ). n % 4096) z.its
 
-  pub search-start : (b : ℕ) {l : ℕ} → b ≡ q % 4096 → b < 4096 → l ≡ get_or heads b 0 → Searching on tiles t l Nothing
+  pub search-start : (b : ℕ) {l : ℕ} → b ≡ q % 4096 → b < 4096 → l ≡ head_at x b → Searching on tiles t l Nothing
   search-start b {l} e p g =
       let low : l ≤ length tiles = subst (λ (n : ℕ). n ≤ length tiles) (sym g) (z.index.head_low b p) in
       let free : Gap on tiles (bucket_of on t) l (length tiles) =
       subst (λ (n : ℕ). Gap on tiles (bucket_of on t) n (length tiles)) (sym g)
-      (subst (λ (n : ℕ). Gap on tiles n (get_or heads b 0) (length tiles)) (bucket-is b e) (z.index.head_gap b p)) in
+      (subst (λ (n : ℕ). Gap on tiles n (head_at x b) (length tiles)) (bucket-is b e) (z.index.head_gap b p)) in
       record {
         low = low;
         is = below_all on t tiles ∙ gap on t tiles l (length tiles) Nothing low (le_refl (length tiles)) free;
       }
 
-  module _ (b : ℕ) {l k next-l : ℕ} {r next-r : Found} {m : Match} (e : b ≡ q % 4096) (o : 0 < l) (up : l ≡ suc k) (h : Searching on tiles t l r)
-      (em : m ≡ match_flip on 8 8 (get_or tiles k []) t) (er : next-r ≡ found_or m k r) (el : next-l ≡ link_of keys next b k) where
+  module _ (b : ℕ) {l k next-l : ℕ} {r next-r : Found} {m : Option Flip} (e : b ≡ q % 4096) (o : 0 < l) (up : l ≡ suc k) (h : Searching on tiles t l r)
+      (em : m ≡ match_flip on 8 8 (get_or tiles k []) t) (er : next-r ≡ found_or m k r) (el : next-l ≡ link_of x b k) where
     kt : k < length tiles
     kt = omega (arith, h.low)
 
     pub search-down : next-l ≤ k
-    search-down = subst (λ (n : ℕ). n ≤ k) (sym el) (link-gap on tiles keys heads next z.index b k kt).0
+    search-down = subst (λ (n : ℕ). n ≤ k) (sym el) (link-gap on tiles x z.index b k kt).0
 
     pub search-turn : Searching on tiles t next-l next-r
     search-turn =
         let free : Gap on tiles (bucket_of on t) next-l k =
         subst (λ (n : ℕ). Gap on tiles (bucket_of on t) n k) (sym el)
-        (subst (λ (n : ℕ). Gap on tiles n (link_of keys next b k) k) (bucket-is b e) (link-gap on tiles keys heads next z.index b k kt).1) in
+        (subst (λ (n : ℕ). Gap on tiles n (link_of x b k) k) (bucket-is b e) (link-gap on tiles x z.index b k kt).1) in
         record {
           low = omega (arith, search-down, kt);
           is =
               h.is ∙ ap (λ (n : ℕ). below on t tiles n r) up
               ∙ turn on t tiles k next-l r kt search-down free
-              ∙ ap (λ (x : Match). below on t tiles next-l (found_or x k r)) (sym em)
+              ∙ ap (λ (o : Option Flip). below on t tiles next-l (found_or o k r)) (sym em)
               ∙ ap (below on t tiles next-l) (sym er);
         }
 

@@ -3,18 +3,16 @@
 use mathlib.Core.Path.{◌≡◌, refl, sym, ap, ◌∙◌}
 use mathlib.Core.Bool.{Bool, true, false, xor}
 use mathlib.Core.List.{List}
-use Prim.Native.Nat.{ℕ, ◌+◌, ◌*◌, ◌%◌, ◌<◌, ◌≤◌}
+use Prim.Native.Nat.{ℕ, ◌+◌, ◌*◌, ◌%◌, ◌<◌}
 use native.Mathlib.Numerals.{add-one}
 use native.Mathlib.Omega.{arith}
-use lib.ListN.{get_or}
 use Rattle.flip.specs.Flips.{flip, flipped}
 use Rattle.flip.specs.Matching.{match_flip, is_under, matches}
 use Rattle.flip.specs.declared.Flip.{Flip}
-use Rattle.flip.specs.declared.Match.{Match}
-use Rattle.flip.specs.declared.Match.TheVariants.{Under, Never}
+use Rattle.std.specs.Prelude.{Option, Some, None}
 use Rattle.flip.proofs.Group.{flipped-flipped}
 use Rattle.flip.proofs.Equivalence.{Allowed, not-both, matches-true}
-use Rattle.index.specs.Inner.{word, hash, mix, pair, key}
+use Rattle.index.specs.Keys.{word, hash, mix, pair, key}
 
 -- ---- no allowed flip changes the key
 
@@ -53,18 +51,17 @@ module _ (on : Bool) (a t : List ℕ) where
   pub matches-key : matches on 8 8 a t ≡ true → key on a ≡ key on t
   matches-key e = let m = matches-true on 8 8 a t e in sym (key-flipped a m.0 on m.1.0) ∙ ap (key on) m.1.1
 
-  never : (m : Match) → (is_under m ≡ true → ⊥) → m ≡ Never
-  never (Under f) h = absurd (h refl)
-  never Never h = refl
+  never : (m : Option Flip) → (is_under m ≡ true → ⊥) → m ≡ None
+  never (Some f) h = absurd (h refl)
+  never None h = refl
 
   -- tiles with two keys do not match
-  pub keys-differ : (key on a ≡ key on t → ⊥) → match_flip on 8 8 a t ≡ Never
+  pub keys-differ : (key on a ≡ key on t → ⊥) → match_flip on 8 8 a t ≡ None
   keys-differ d = never (match_flip on 8 8 a t) (λ e. d (matches-key e))
 
 -- ---- the loop that makes a key
 
 pub record Hashing (t : List ℕ) (v : Bool) (y a b : ℕ) : Type 0 where
-  pub most : y ≤ 8
   pub plain : a ≡ hash (flipped (flip false v) 8 8 t) (2 * y)
   pub across : b ≡ hash (flipped (flip true v) 8 8 t) (2 * y)
   pub a_small : a < 4294967296
@@ -81,11 +78,6 @@ hash-more t n {a} {p} e f g =
     ∙ ap (λ (x : ℕ). (hash t n * 10368889 + x) % 4294967296) f
     ∙ ap (hash t) (sym (add-one n))
 
-pub word_made : (t : List ℕ) (n : ℕ) {a b c d : ℕ} → a ≡ get_or t (4 * n) 0 → b ≡ get_or t (4 * n + 1) 0 → c ≡ get_or t (4 * n + 2) 0 → d ≡ get_or t (4 * n + 3) 0
-    → a + 256 * b + (65536 * c + 16777216 * d) ≡ word t n
-unfolding word
-word_made t n e f g h = rw (e, f, g, h)
-
 pub row_more : (t : List ℕ) (y : ℕ) {a p q l r : ℕ} → a ≡ hash t (2 * y) → p ≡ word t (2 * y) → l ≡ (a * 10368889 + p) % 4294967296
     → q ≡ word t (2 * y + 1) → r ≡ (l * 10368889 + q) % 4294967296 → r ≡ hash t (2 * (y + 1))
 row_more t y e f g h i =
@@ -96,13 +88,3 @@ unfolding pair
 pair_made {t} {v} {y} h e p q =
     let at : (f : Flip) (x : ℕ) → x ≡ hash (flipped f 8 8 t) (2 * y) → x ≡ hash (flipped f 8 8 t) 16 = λ f x g. g ∙ ap (λ (n : ℕ). hash (flipped f 8 8 t) (2 * n)) e in
     rw (p, q, at (flip false v) _ h.plain, at (flip true v) _ h.across)
-
-pub key-two : (t : List ℕ) {on : Bool} {p : ℕ} → on ≡ false → p ≡ pair false t → p % 4294967296 ≡ key on t
-unfolding key
-key-two t {on = false} o e = ap (λ (n : ℕ). n % 4294967296) e
-key-two t {on = true} o e = not-both (sym o)
-
-pub key-four : (t : List ℕ) {on : Bool} {p q : ℕ} → on ≡ true → p ≡ pair false t → q ≡ pair true t → (p + q) % 4294967296 ≡ key on t
-unfolding key
-key-four t {on = true} o e f = rw (e, f)
-key-four t {on = false} o e f = not-both o

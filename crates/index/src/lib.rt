@@ -1,32 +1,26 @@
 // An index of 8x8 tiles: the first that matches a tile is found without comparing it with each. A tile's key, which no allowed flip
 // changes, names its bucket; the tiles of a bucket are chained from the last to the first. The tiles stay with the caller, who searches
-// a chain by `bucket`, `link` and `over`.
+// a chain by `bucket`, `head`, `link` and `over`.
 #![tactic(auto)]
 
-ghost use Rattle.std.specs.Prelude.{◌≡◌, ◌+◌, ◌*◌, ◌%◌, ◌<◌, ◌≤◌, length, get_or};
+ghost use Rattle.std.specs.Prelude.{◌≡◌, ◌+◌, ◌*◌, ◌%◌, ◌<◌, ◌≤◌, IsTrue, ◌↔◌, length, get_or};
 ghost use Rattle.flip.specs.Flips.{flipped};
 ghost use Rattle.tileset.specs.Finding.{found_or};
-ghost use Rattle.index.specs.Inner.{word, hash, mix, pair, key, link_of, head_of, Enters};
+ghost use Rattle.index.specs.Keys.{word, hash, mix, pair, key};
 
-use flip::{Flip, Match};
+use flip::Flip;
 use tileset::{Found, Logical};
-
-// A number of the index as a place.
-pub fn place(x: u16) -> usize
-    ensures { result ≡ x }
-{
-    x as usize
-}
 
 fn pixel(tile: &[u8; 64], f: Flip, i: usize) -> u64
     requires { i < 64 }
     ensures { (result ≡ get_or (flipped f 8 8 tile.now) i 0) × (result < 256) }
 {
     let k = flip::flip_at(f, i);
-    words::widen(tile[k])
+    u64::from(tile[k])
 }
 
 // Four pixels of the tile under a flip as one number.
+#[tactic(auto, unfolding(crate::specs::Keys::word))]
 fn four(tile: &[u8; 64], f: Flip, n: usize) -> u64
     requires { n < 16 }
     ensures { (result ≡ word (flipped f 8 8 tile.now) n) × (result < 4294967296) }
@@ -68,16 +62,15 @@ fn pair(tile: &[u8; 64], v: bool) -> u64
 {
     let mut a: u64 = 0;
     let mut b: u64 = 0;
-    let mut y: usize = 0;
-    while y < 8 {
+    for y in 0..8 {
         a = more_row(tile, Flip { h: false, v }, a, y);
         b = more_row(tile, Flip { h: true, v }, b, y);
-        y += 1;
     }
     mixed(a) + mixed(b)
 }
 
 // The key of a tile.
+#[tactic(auto, unfolding(crate::specs::Keys::key))]
 pub fn key(tile: &[u8; 64], flips: bool) -> u32
     ensures { result ≡ key flips tile.now }
 {
@@ -96,47 +89,89 @@ pub fn bucket(q: u32) -> usize
 }
 
 // Tile k where it matches, else what was found.
-pub fn over(m: Match, k: usize, found: Found) -> Found
+pub fn over(m: Option<Flip>, k: usize, found: Found) -> Found
     requires { k < 4096 }
     ensures { result ≡ found_or m k found }
 {
-    let Match::Under(f) = m else {
+    let Some(f) = m else {
         return found;
     };
     Found::At(Logical(k as u32), f)
 }
 
-// The link that follows tile k in bucket b.
-pub fn link(keys: &[u32; 4096], next: &[u16; 4096], b: usize, k: usize) -> usize
-    requires { k < 4096 }
-    ensures { result ≡ link_of keys.now next.now b k }
-{
-    if bucket(keys[k]) != b {
-        return k;
+// An index: of each tile its key, and its link to the one before it in its bucket; and the head of each bucket, which is its last tile. Head and
+// links are places + 1, or 0 at a chain's end. It is 32 KiB of fixed memory, for nothing here asks for any: lent, and not to be copied.
+#[derive(Drop)]
+pub struct Index {
+    keys: [u32; 4096],
+    heads: [u16; 4096],
+    next: [u16; 4096],
+    pub ghost whole: { (length keys ≡ 4096) × (length heads ≡ 4096) × (length next ≡ 4096) },
+}
+
+impl Index {
+    ghost use Rattle.index.specs.Inner.{key_at, head_at, link_of, head_of, IsEmpty, Enters};
+
+    // The index of no tiles.
+    pub fn new() -> Index
+        ensures { IsEmpty result }
+    {
+        Index {
+            keys: [0; 4096],
+            heads: [0; 4096],
+            next: [0; 4096],
+        }
     }
-    place(next[k])
-}
 
-// The head of a bucket after tile n: a tile that another matches is in no chain.
-fn head_of(found: Found, head: u16, n: usize) -> u16
-    requires { n < 4096 }
-    ensures { result ≡ head_of found head n }
-{
-    let Found::At(_, _) = found else {
-        return (n + 1) as u16;
-    };
-    head
-}
+    // Whether tile k has the key q.
+    pub fn has_key(&self, k: usize, q: u32) -> bool
+        requires { k < 4096 }
+        ensures { IsTrue result ↔ (key_at self.now k ≡ q) }
+    {
+        self.keys[k] == q
+    }
 
-// One tile more, tile n, whose key is q: its key, its link and the head of its bucket. Found is what a look-up of it among those before it
-// found.
-pub fn enter(keys: &mut [u32], heads: &mut [u16], next: &mut [u16], n: usize, q: u32, found: Found)
-    requires { (n < 4096) × (n < length keys.old) × (n < length next.old) × (4096 ≤ length heads.old) }
-    ensures { Enters keys.old heads.old next.old n q found keys.new heads.new next.new }
-{
-    let b = bucket(q);
-    let head = heads[b];
-    keys[n] = q;
-    next[n] = head;
-    heads[b] = head_of(found, head, n);
+    // The head of bucket b.
+    pub fn head(&self, b: usize) -> usize
+        requires { b < 4096 }
+        ensures { result ≡ head_at self.now b }
+    {
+        usize::from(self.heads[b])
+    }
+
+    // The link that follows tile k in bucket b.
+    #[tactic(auto, unfolding(crate::specs::Inner::link_of))]
+    pub fn link(&self, b: usize, k: usize) -> usize
+        requires { k < 4096 }
+        ensures { result ≡ link_of self.now b k }
+    {
+        if bucket(self.keys[k]) != b {
+            return k;
+        }
+        usize::from(self.next[k])
+    }
+
+    // One tile more, tile n, whose key is q: its key, its link and the head of its bucket. Found is what a look-up of it among those before it
+    // found.
+    pub fn enter(&mut self, n: usize, q: u32, found: Found)
+        requires { n < 4096 }
+        ensures { Enters self.old n q found self.new }
+    {
+        let b = bucket(q);
+        let head = self.heads[b];
+        self.keys[n] = q;
+        self.next[n] = head;
+        self.heads[b] = Self::head_of(found, head, n);
+    }
+
+    // The head of a bucket after tile n: a tile that another matches is in no chain.
+    fn head_of(found: Found, head: u16, n: usize) -> u16
+        requires { n < 4096 }
+        ensures { result ≡ head_of found head n }
+    {
+        let Found::At(_, _) = found else {
+            return (n + 1) as u16;
+        };
+        head
+    }
 }

@@ -2,6 +2,7 @@
 -- Assumes nothing.
 use mathlib.Core.Path.{◌≡◌, refl, sym, ap, ◌∙◌}
 use mathlib.Core.Bool.{Bool, true, false, cond}
+use Rattle.std.specs.Prelude.{Some}
 use Prim.Native.Nat.{ℕ, ◌+◌, ◌*◌, ◌/◌, ◌%◌, ◌<◌}
 use native.Mathlib.Omega.{arith}
 use lib.Dec.{ltb}
@@ -27,14 +28,14 @@ nine_bits e =
     record { tile = e.tile % 512; palette = e.palette; flip_h = e.flip_h; flip_v = e.flip_v; priority = e.priority }
 
 -- what ws cannot hold: a tile index of 512 and above, else what wsc cannot hold
-fits-case : (e : Mapentry) (b : Bool) → ltb e.tile 512 ≡ b → misfit_of ws e ≡ cond b (misfit_of wsc e) Tile
+fits-case : (e : Mapentry) (b : Bool) → ltb e.tile 512 ≡ b → misfit_of ws e ≡ cond b (misfit_of wsc e) (Some Tile)
 unfolding row
 fits-case e true small =
     let under : ltb e.tile 1024 ≡ true = lt-ltb e.tile 1024 (omega (arith, ltb-true e.tile 512 small)) in
     rw (small, under)
 fits-case e false large = rw large
 
-pub ws-fits : (e : Mapentry) → misfit_of ws e ≡ cond (ltb e.tile 512) (misfit_of wsc e) Tile
+pub ws-fits : (e : Mapentry) → misfit_of ws e ≡ cond (ltb e.tile 512) (misfit_of wsc e) (Some Tile)
 ws-fits e = fits-case e (ltb e.tile 512) refl
 
 -- an entry of ws has the bytes that it has in wsc

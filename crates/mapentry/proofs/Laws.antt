@@ -3,11 +3,16 @@
 use mathlib.Core.Path.{◌≡◌, refl, sym, ap, ◌∙◌}
 use mathlib.Core.Bool.{Bool, true, false, not, cond, ◌&&◌}
 use mathlib.Core.List.{[], ◌∷◌, ◌++◌}
+use Rattle.std.specs.Prelude.{Option, Some, None}
+use mathlib.Core.Logic.{⊎_elim}
 use Prim.Native.Nat.{ℕ, zero, suc, ◌^◌, ◌<◌, ◌≤◌}
 use native.Mathlib.Nat.{suc-ne-zero, lt_of_lt_of_le}
 use native.Mathlib.Omega.{arith}
 use lib.Dec.{ltb, leb, eqb, leb→le}
 use lib.Pow.{pow_mono}
+use Rattle.std.proofs.lemmas.Bool.{cases_lt}
+use Rattle.std.proofs.lemmas.List.{get_or_past}
+use mir.Val.{bool_byte}
 use borrow.Author.Tests.{ltb-true, ltb-false, eqb-false, lt-ltb}
 use Rattle.words.specs.Answers.{◌when◌, first_applying}
 use Rattle.words.specs.Bytes.{bit}
@@ -16,12 +21,12 @@ use Rattle.words.proofs.Answers.{all-passed, not-given, before-space, no-space, 
 use Rattle.words.proofs.Fields.{join-lt}
 use Rattle.words.proofs.Loops.{all-at}
 use Rattle.words.proofs.Order.{first-append}
-use Rattle.mode.specs.Table.{row, gbc, pce-sprite}
+use Rattle.mode.specs.Table.{row, rows, none, gbc, pce-sprite}
 use Rattle.mode.proofs.ByMode.{every-mode}
 use Rattle.mapentry.specs.Entry.{layout, values_of, entry_word, misfit_of, misfit_says, entry_checks, entry_says, entry_answer, blank, entered, index_size, IsEntry, without_tile}
 use Rattle.mapentry.specs.declared.Mapentry.{Mapentry}
 use Rattle.mapentry.specs.declared.Misfit.{Misfit}
-use Rattle.mapentry.specs.declared.Misfit.TheVariants.{Tile, Palette, Flip, Priority, Nothing}
+use Rattle.mapentry.specs.declared.Misfit.TheVariants.{Tile, Palette, Flip, Priority}
 
 -- few bits, and one or two bytes
 pub record Small (m : ℕ) : Type 0 where
@@ -42,6 +47,12 @@ small m h =
       entry = leb→le (row m).entry 2 (all-at 16 (λ k. leb (row k).entry 2) tt m h);
     }
 
+-- no number's row has more than two, a mode's or not
+pub entry-few : (m : ℕ) → (row m).entry ≤ 2
+unfolding row
+entry-few m =
+    ⊎_elim (λ l. (small m l).entry) (λ g. rw (get_or_past rows m none g) (omega arith)) (cases_lt m 16)
+
 pub some_byte : (m : ℕ) → m < 16 → (m ≡ pce-sprite → ⊥) → 0 < (row m).entry
 unfolding row
 some_byte = every-mode (λ (m : ℕ). (m ≡ pce-sprite → ⊥) → 0 < (row m).entry) (omega arith)
@@ -55,25 +66,12 @@ index-small m = one-or-two (ltb 8 (row m).tile && not (eqb m gbc))
 
 -- ---- an entry that passes the checks
 
--- what is left of the tests once those of the tile, of the palette, of h and of v have passed
-abbrev pub after_v : ℕ → Mapentry → Misfit
-after_v m e = cond (not (ltb (bit e.priority) (2 ^ (row m).priority))) Priority Nothing
-
-abbrev pub after_h : ℕ → Mapentry → Misfit
-after_h m e = cond (not (ltb (bit e.flip_v) (2 ^ (row m).flips))) Flip (after_v m e)
-
-abbrev pub after_palette : ℕ → Mapentry → Misfit
-after_palette m e = cond (not (ltb (bit e.flip_h) (2 ^ (row m).flips))) Flip (after_h m e)
-
-abbrev pub after_tile : ℕ → Mapentry → Misfit
-after_tile m e = cond (not (ltb e.palette (2 ^ (row m).palette))) Palette (after_palette m e)
-
-pub no-misfit : (f : Misfit) → misfit_says f ≡ 0 → f ≡ Nothing
-no-misfit Tile e = absurd (eqb-false (misfit_says Tile) 0 refl e)
-no-misfit Palette e = absurd (eqb-false (misfit_says Palette) 0 refl e)
-no-misfit Flip e = absurd (eqb-false (misfit_says Flip) 0 refl e)
-no-misfit Priority e = absurd (eqb-false (misfit_says Priority) 0 refl e)
-no-misfit Nothing e = refl
+pub no-misfit : (f : Option Misfit) → misfit_says f ≡ 0 → f ≡ None
+no-misfit (Some Tile) e = cc
+no-misfit (Some Palette) e = cc
+no-misfit (Some Flip) e = cc
+no-misfit (Some Priority) e = cc
+no-misfit None e = refl
 
 pub is-entry : (m : ℕ) (e : Mapentry) → entry_says m e ≡ 0 → IsEntry m e
 unfolding entry_says
@@ -108,29 +106,17 @@ pub record Fitting (m : ℕ) (e : Mapentry) : Type 0 where
   pub v : bit e.flip_v < 2 ^ (row m).flips
   pub priority : bit e.priority < 2 ^ (row m).priority
 
-number : Misfit → ℕ
-number Nothing = 0
-number Tile = 1
-number Palette = 1
-number Flip = 1
-number Priority = 1
+passes : (b : Bool) (f : Misfit) (g : Option Misfit) → cond (not b) (Some f) g ≡ None → (b ≡ true) × (g ≡ None)
+passes true f g e = (refl, e)
+passes false f g e = absurd (cc)
 
-passes : (b : Bool) (f g : Misfit) → number f ≡ 1 → cond (not b) f g ≡ Nothing → (b ≡ true) × (g ≡ Nothing)
-unfolding number
-passes true f g n e = (refl, e)
-passes false f g n e =
-    let z : number f ≡ 0 = ap number e in
-    let no : ⊥ = omega arith in
-    absurd no
-
-pub fitting : (m : ℕ) (e : Mapentry) → misfit_of m e ≡ Nothing → Fitting m e
-unfolding number
+pub fitting : (m : ℕ) (e : Mapentry) → misfit_of m e ≡ None → Fitting m e
 fitting m e z =
-    let a = passes (ltb e.tile (2 ^ (row m).tile)) Tile _ refl z in
-    let b = passes (ltb e.palette (2 ^ (row m).palette)) Palette _ refl a.1 in
-    let c = passes (ltb (bit e.flip_h) (2 ^ (row m).flips)) Flip _ refl b.1 in
-    let d = passes (ltb (bit e.flip_v) (2 ^ (row m).flips)) Flip _ refl c.1 in
-    let f = passes (ltb (bit e.priority) (2 ^ (row m).priority)) Priority _ refl d.1 in
+    let a = passes (ltb e.tile (2 ^ (row m).tile)) Tile _ z in
+    let b = passes (ltb e.palette (2 ^ (row m).palette)) Palette _ a.1 in
+    let c = passes (ltb (bit e.flip_h) (2 ^ (row m).flips)) Flip _ b.1 in
+    let d = passes (ltb (bit e.flip_v) (2 ^ (row m).flips)) Flip _ c.1 in
+    let f = passes (ltb (bit e.priority) (2 ^ (row m).priority)) Priority _ d.1 in
     record {
       tile = ltb-true e.tile (2 ^ (row m).tile) a.0;
       palette = ltb-true e.palette (2 ^ (row m).palette) b.0;
@@ -139,7 +125,7 @@ fitting m e z =
       priority = ltb-true (bit e.priority) (2 ^ (row m).priority) f.0;
     }
 
-pub fits_all : (m : ℕ) (e : Mapentry) → Fitting m e → misfit_of m e ≡ Nothing
+pub fits_all : (m : ℕ) (e : Mapentry) → Fitting m e → misfit_of m e ≡ None
 fits_all m e f =
     rw (lt-ltb e.tile (2 ^ (row m).tile) f.tile, lt-ltb e.palette (2 ^ (row m).palette) f.palette, lt-ltb (bit e.flip_h) (2 ^ (row m).flips) f.h, lt-ltb (bit e.flip_v) (2 ^ (row m).flips) f.v, lt-ltb (bit e.priority) (2 ^ (row m).priority) f.priority)
 
@@ -185,3 +171,8 @@ refused-entry n e p = ap (λ (i : ℕ). entered i e) p
 pub done-entry : {k : ℕ} (r e : Mapentry) → k ≡ 0 → r ≡ e → entry_answer 0 r ≡ entered k e
 done-entry {k = zero} r e z p = ap (λ (x : Mapentry). entry_answer 0 x) p
 done-entry {k = suc k} r e z p = absurd (suc-ne-zero k z)
+
+-- a flag as the bit that the code makes of it
+pub bit-byte : (b : Bool) → bool_byte b ≡ bit b
+bit-byte true = refl
+bit-byte false = refl

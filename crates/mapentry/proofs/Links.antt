@@ -1,14 +1,17 @@
 -- The places that are computed from the fields of document 01 are those of its words, mode by mode: the word that the code sums, and the
 -- values that it finds.
 -- Assumes nothing.
-use mathlib.Core.Path.{◌≡◌, refl, sym, ap, ◌∙◌}
+use mathlib.Core.Path.{◌≡◌, refl, sym, ◌∙◌}
 use mathlib.Core.Bool.{Bool, true, false}
 use mathlib.Core.List.{List}
+use mathlib.Core.Logic.{⊎_elim}
 use Prim.Native.Nat.{ℕ, zero, suc, ◌+◌, ◌*◌, ◌/◌, ◌%◌, ◌^◌, ◌<◌, ◌≤◌}
 use native.Mathlib.Nat.{div-one, mul_comm}
 use native.Mathlib.Omega.{arith}
 use lib.Dec.{T, leb, eqb, leb→le, eqb→eq}
 use lib.ListN.{length, get_or}
+use Rattle.std.proofs.lemmas.Bool.{cases_lt}
+use Rattle.std.proofs.lemmas.List.{get_or_past}
 use borrow.Author.Tests.{le-ltb, ne_eqb}
 use Rattle.words.specs.Bytes.{bit}
 use Rattle.words.specs.Fields.{Field, split}
@@ -16,11 +19,10 @@ use Rattle.words.specs.Inner.{bits_for, are_fields, start_of, run_of, start_agai
 use Rattle.words.proofs.Answers.{last-given}
 use Rattle.words.proofs.Loops.{all-at}
 use Rattle.words.proofs.Starts.{once, once_again, bits_again, once-found, run-found}
-use Rattle.mode.specs.Table.{row, pce-sprite}
+use Rattle.mode.specs.Table.{row, rows, none, pce-sprite}
 use Rattle.mode.proofs.ByMode.{every-mode}
-use Rattle.mapentry.specs.Entry.{layout, entry_word, entry_in, entry_of, read_says, entered}
+use Rattle.mapentry.specs.Entry.{layout, entry_word, entry_in, read_says}
 use Rattle.mapentry.specs.Inner.{places_in, Near, read_at, size_says}
-use Rattle.mapentry.specs.declared.Entry.{Entry}
 use Rattle.mapentry.specs.declared.Mapentry.{Mapentry}
 use Rattle.mapentry.specs.declared.Places.{Places}
 use Rattle.mapentry.proofs.Laws.{Fitting}
@@ -94,14 +96,15 @@ module _ (m : ℕ) (h : m < 16) (w : ℕ) (small : w < 65536) where
   unfolding layout places_in
   read_right = rw (tile-at, once-at 1 (omega arith) tt, flag_at 2 (omega arith) tt tt, flag_at 3 (omega arith) tt tt, flag_at 4 (omega arith) tt tt)
 
+-- what has entries is a mode, and not pce_sprite
+pub has-entries : (m : ℕ) → 0 < (row m).entry → (m < 16) × (m ≡ pce-sprite → ⊥)
+unfolding row
+has-entries m some = (
+  ⊎_elim (λ l. l) (λ g. let no = rw (get_or_past rows m none g) at some in omega arith) (cases_lt m 16),
+  λ e. let no = rw e at some in omega arith,
+)
+
 -- a mode with entries checks their size alone
 pub size-says : (m : ℕ) → m < 16 → (m ≡ pce-sprite → ⊥) → (bytes : List ℕ) → size_says (row m).entry bytes ≡ read_says m (length bytes)
 unfolding read_says
 size-says m h n bytes = rw (le-ltb 15 m (omega arith), ne_eqb m pce-sprite n) (last-given (size_says (row m).entry bytes))
-
--- an arm of reading, at the mode k
-pub arm-right : {r : Entry} {m : ℕ} (k : ℕ) → k < 16 → (k ≡ pce-sprite → ⊥) → (bytes : List ℕ) → r ≡ entered (size_says (row k).entry bytes) (entry_of k bytes) → m ≡ k → r ≡ entered (read_says m (length bytes)) (entry_of m bytes)
-arm-right k h n bytes e key =
-    e
-    ∙ ap (λ (i : ℕ). entered i (entry_of k bytes)) (size-says k h n bytes)
-    ∙ ap (λ (i : ℕ). entered (read_says i (length bytes)) (entry_of i bytes)) (sym key)

@@ -3,6 +3,7 @@
 use mathlib.Core.Path.{◌≡◌, refl, sym, ◌∙◌}
 use mathlib.Core.Bool.{Bool, true, false, not, cond, ◌&&◌}
 use mathlib.Core.List.{List, [], ◌∷◌, map}
+use Rattle.std.specs.Prelude.{Some, None}
 use Prim.Native.Nat.{ℕ, ◌^◌}
 use lib.Dec.{ltb, eqb}
 use Rattle.words.specs.Answers.{◌when◌, first_applying, lowest}
@@ -13,29 +14,31 @@ use Rattle.mode.specs.Table.{row, pce-sprite}
 use Rattle.mapentry.specs.Entry.{misfit_of, misfit_says, entry_says, read_checks, read_says}
 use Rattle.mapentry.specs.declared.Mapentry.{Mapentry}
 use Rattle.mapentry.specs.declared.Misfit.{Misfit}
-use Rattle.mapentry.specs.declared.Misfit.TheVariants.{Tile, Palette, Flip, Priority, Nothing}
+use Rattle.mapentry.specs.declared.Misfit.TheVariants.{Tile, Palette, Flip, Priority}
 
 -- The fields, "checked in that order", and whether each fits its bits.
 abbrev pub fields : List Misfit
 fields = Tile ∷ Palette ∷ Flip ∷ Priority ∷ []
+
+abbrev pub numbers : List ℕ
+numbers = map (λ (f : Misfit). misfit_says (Some f)) fields
 
 abbrev pub fits : ℕ → Mapentry → Misfit → Bool
 fits m e Tile = ltb e.tile (2 ^ (row m).tile)
 fits m e Palette = ltb e.palette (2 ^ (row m).palette)
 fits m e Flip = ltb (bit e.flip_h) (2 ^ (row m).flips) && ltb (bit e.flip_v) (2 ^ (row m).flips)
 fits m e Priority = ltb (bit e.priority) (2 ^ (row m).priority)
-fits m e Nothing = true
 
 -- An entry's checks with one for each field.
 abbrev fields_only : ℕ → Mapentry → List ℕ
-fields_only m e = map (λ (f : Misfit). misfit_says f when not (fits m e f)) fields
+fields_only m e = map (λ (f : Misfit). misfit_says (Some f) when not (fits m e f)) fields
 
 abbrev pub field_checks : ℕ → Mapentry → List ℕ
 field_checks m e = 1 when ltb 15 m ∷ 2 when eqb m pce-sprite ∷ fields_only m e
 
 each-field : (t p h v q : Bool)
-    → misfit_says (cond (not t) Tile (cond (not p) Palette (cond (not h) Flip (cond (not v) Flip (cond (not q) Priority Nothing)))))
-    ≡ first_applying (misfit_says Tile when not t ∷ misfit_says Palette when not p ∷ misfit_says Flip when not (h && v) ∷ misfit_says Priority when not q ∷ [])
+    → misfit_says (cond (not t) (Some Tile) (cond (not p) (Some Palette) (cond (not h) (Some Flip) (cond (not v) (Some Flip) (cond (not q) (Some Priority) None)))))
+    ≡ first_applying (misfit_says (Some Tile) when not t ∷ misfit_says (Some Palette) when not p ∷ misfit_says (Some Flip) when not (h && v) ∷ misfit_says (Some Priority) when not q ∷ [])
 each-field false p h v q = refl
 each-field true false h v q = refl
 each-field true true false v q = refl
@@ -53,7 +56,7 @@ module _ (m : ℕ) (e : Mapentry) where
       ∙ each-field (fits m e Tile) (fits m e Palette) (ltb (bit e.flip_h) (2 ^ (row m).flips)) (ltb (bit e.flip_v) (2 ^ (row m).flips)) (fits m e Priority))
 
   pub entry-lowest : entry_says m e ≡ lowest (field_checks m e)
-  entry-lowest = which-field ∙ first-lowest (1 ∷ 2 ∷ map misfit_says fields) (field_checks m e) tt (search gives-when depth 20)
+  entry-lowest = which-field ∙ first-lowest (1 ∷ 2 ∷ numbers) (field_checks m e) tt (search gives-when depth 20)
 
 pub read-lowest : (m len : ℕ) → read_says m len ≡ lowest (read_checks m len)
 unfolding read_says

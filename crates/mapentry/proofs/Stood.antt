@@ -12,17 +12,18 @@ use lib.ListN.{length}
 use Rattle.words.specs.Answers.{◌when◌, first_applying, lowest, unless, numbered, overwrite, Wrote}
 use Rattle.words.specs.declared.Written.{Written}
 use Rattle.words.proofs.Order.{first-lowest}
+use Rattle.std.specs.Prelude.{Option, Some, None}
 use Rattle.mode.specs.Table.{row, one_of, pce-sprite}
 use Rattle.mapentry.specs.Entry.{misfit_of, misfit_says, entry_checks, entry_says, pack_checks, pack_says, index_size, index_checks, index_says}
 use Rattle.mapentry.specs.declared.Mapentry.{Mapentry}
 use Rattle.mapentry.specs.declared.Misfit.{Misfit}
-use Rattle.mapentry.specs.declared.Misfit.TheVariants.{Tile, Palette, Flip, Priority, Nothing}
-use Rattle.mapentry.proofs.Lowest.{fields}
+use Rattle.mapentry.specs.declared.Misfit.TheVariants.{Tile, Palette, Flip, Priority}
+use Rattle.mapentry.proofs.Lowest.{numbers}
 
 -- Document 01's rule: "an entry field its bits cannot hold, a flip or priority where there is none" is 10, whichever field it is. Of a number
 -- that is answered, the one that stood in its place.
 abbrev pub stood : ℕ → ℕ
-stood n = cond (one_of n (map misfit_says fields)) 10 n
+stood n = cond (one_of n numbers) 10 n
 
 -- nothing was done then that is not done now, nor the other way round
 some-stood : {A : Type 0} (b : Bool) (n : ℕ) (done refused : A) → unless (cond b 10 (suc n)) done refused ≡ refused
@@ -31,7 +32,7 @@ some-stood false n done refused = refl
 
 pub stood-unless : {A : Type 0} (n : ℕ) (done refused : A) → unless (stood n) done refused ≡ unless n done refused
 stood-unless zero done refused = refl
-stood-unless (suc n) done refused = some-stood (one_of (suc n) (map misfit_says fields)) n done refused
+stood-unless (suc n) done refused = some-stood (one_of (suc n) numbers) n done refused
 
 pub stood-done : (n : ℕ) → (stood n ≡ 0 → n ≡ 0) × (n ≡ 0 → stood n ≡ 0)
 stood-done n = (back n, ap stood)
@@ -42,7 +43,7 @@ stood-done n = (back n, ap stood)
 
     back : (k : ℕ) → stood k ≡ 0 → k ≡ 0
     back zero e = refl
-    back (suc k) e = absurd (never (one_of (suc k) (map misfit_says fields)) k e)
+    back (suc k) e = absurd (never (one_of (suc k) numbers) k e)
 
 -- of a list of checks
 some_first : (b : Bool) (n : ℕ) (ns : List ℕ) → cond b 10 (suc n) ≡ first_applying (cond b 10 (suc n) ∷ ns)
@@ -52,19 +53,19 @@ some_first false n ns = refl
 pub stood-first : (ns : List ℕ) → stood (first_applying ns) ≡ first_applying (map stood ns)
 stood-first [] = refl
 stood-first (zero ∷ ns) = stood-first ns
-stood-first (suc n ∷ ns) = some_first (one_of (suc n) (map misfit_says fields)) n (map stood ns)
+stood-first (suc n ∷ ns) = some_first (one_of (suc n) numbers) n (map stood ns)
 
 -- each check gives the number that stood, or does not apply
 pub stood-when : (k : ℕ) (b : Bool) → stood k ≡ k → (stood (k when b) ≡ 0) ⊎ (stood (k when b) ≡ k)
 stood-when k true e = inr e
 stood-when k false e = inl refl
 
-pub stood-misfit : (f : Misfit) → (stood (misfit_says f) ≡ 0) ⊎ (stood (misfit_says f) ≡ 10)
-stood-misfit Tile = inr refl
-stood-misfit Palette = inr refl
-stood-misfit Flip = inr refl
-stood-misfit Priority = inr refl
-stood-misfit Nothing = inl refl
+pub stood-misfit : (f : Option Misfit) → (stood (misfit_says f) ≡ 0) ⊎ (stood (misfit_says f) ≡ 10)
+stood-misfit (Some Tile) = inr refl
+stood-misfit (Some Palette) = inr refl
+stood-misfit (Some Flip) = inr refl
+stood-misfit (Some Priority) = inr refl
+stood-misfit None = inl refl
 
 -- an entry's checks, and those that end with the space
 module _ (m : ℕ) (e : Mapentry) where

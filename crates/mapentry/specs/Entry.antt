@@ -1,14 +1,16 @@
 -- "Map entry bytes."
 -- Assumes nothing.
-use Rattle.std.specs.Prelude.{ℕ, ◌/◌, ◌^◌, ◌<◌, ◌≡◌, Bool, false, not, cond, ◌&&◌, List, [], ◌∷◌, ◌++◌, ltb, eqb, get_or}
+use Rattle.std.specs.Prelude.{ℕ, ◌/◌, ◌^◌, ◌<◌, ◌≡◌, Bool, false, not, cond, ◌&&◌, List, [], ◌∷◌, ◌++◌, ltb, eqb, get_or, Option, Some, None, Result, Ok, Err}
 use Rattle.words.specs.Answers.{◌when◌, first_applying, unless}
 use Rattle.words.specs.Bytes.{bit, bytes_of, word_of}
 use Rattle.words.specs.Fields.{Field, field, unused, join, split}
+use Rattle.words.specs.Refusals.{refusal_number}
+use Rattle.words.specs.declared.refusal.Refusal.{Refusal}
 use Rattle.mode.specs.Table.{row, gbc, md, pce-sprite}
 use Rattle.mapentry.specs.declared.Mapentry.{Mapentry}
 use Rattle.mapentry.specs.declared.Entry.{Entry}
 use Rattle.mapentry.specs.declared.Misfit.{Misfit}
-use Rattle.mapentry.specs.declared.Misfit.TheVariants.{Tile, Palette, Flip, Priority, Nothing}
+use Rattle.mapentry.specs.declared.Misfit.TheVariants.{Tile, Palette, Flip, Priority}
 
 -- What may stand in an entry's word: some bits of the tile index, of the palette index, priority, a flip.
 abbrev tile : ℕ → Field
@@ -77,22 +79,22 @@ abbrev pub entry_of : ℕ → List ℕ → Mapentry
 entry_of m bytes = entry_in m (word_of (most_first m) bytes)
 
 -- The first field that its bits cannot hold, or "a flip or priority where there is none".
-abbrev pub misfit_of : ℕ → Mapentry → Misfit
+abbrev pub misfit_of : ℕ → Mapentry → Option Misfit
 misfit_of m e =
-    cond (not (ltb e.tile (2 ^ (row m).tile))) Tile
-    (cond (not (ltb e.palette (2 ^ (row m).palette))) Palette
-    (cond (not (ltb (bit e.flip_h) (2 ^ (row m).flips))) Flip
-    (cond (not (ltb (bit e.flip_v) (2 ^ (row m).flips))) Flip
-    (cond (not (ltb (bit e.priority) (2 ^ (row m).priority))) Priority
-    Nothing))))
+    cond (not (ltb e.tile (2 ^ (row m).tile))) (Some Tile)
+    (cond (not (ltb e.palette (2 ^ (row m).palette))) (Some Palette)
+    (cond (not (ltb (bit e.flip_h) (2 ^ (row m).flips))) (Some Flip)
+    (cond (not (ltb (bit e.flip_v) (2 ^ (row m).flips))) (Some Flip)
+    (cond (not (ltb (bit e.priority) (2 ^ (row m).priority))) (Some Priority)
+    None))))
 
 -- "15 tile, 16 palette, 17 flip, 18 priority": the one place that knows the fields' numbers.
-abbrev pub misfit_says : Misfit → ℕ
-misfit_says Tile = 15
-misfit_says Palette = 16
-misfit_says Flip = 17
-misfit_says Priority = 18
-misfit_says Nothing = 0
+abbrev pub misfit_says : Option Misfit → ℕ
+misfit_says (Some Tile) = 15
+misfit_says (Some Palette) = 16
+misfit_says (Some Flip) = 17
+misfit_says (Some Priority) = 18
+misfit_says None = 0
 
 -- The checks of every call that takes an entry; the fields are "checked in that order where 10 stood".
 abbrev pub entry_checks : ℕ → Mapentry → List ℕ
@@ -105,7 +107,7 @@ entry_says m e = first_applying (entry_checks m e)
 pub record IsEntry (m : ℕ) (e : Mapentry) : Type 0 where
   pub mode : m < 16
   pub map : m ≡ pce-sprite → ⊥
-  pub fits : misfit_of m e ≡ Nothing
+  pub fits : misfit_of m e ≡ None
 
 abbrev pub pack_checks : ℕ → Mapentry → ℕ → List ℕ
 pack_checks m e space = entry_checks m e ++ 11 when ltb space (row m).entry ∷ []
@@ -126,6 +128,11 @@ blank = record { tile = 0; palette = 0; flip_h = false; flip_v = false; priority
 abbrev pub entry_answer : ℕ → Mapentry → Entry
 entry_answer n e =
     record { refusal = n; tile = e.tile; palette = e.palette; flip_h = e.flip_h; flip_v = e.flip_v; priority = e.priority }
+
+-- The record that a host is given of a reading.
+abbrev pub entry_by : Result Mapentry Refusal → Entry
+entry_by (Ok e) = entry_answer 0 e
+entry_by (Err r) = entry_answer (refusal_number r) blank
 
 abbrev pub entered : ℕ → Mapentry → Entry
 entered n e = entry_answer n (unless n e blank)

@@ -2,20 +2,20 @@
 -- Assumes nothing.
 use mathlib.Core.Path.{◌≡◌, refl, sym}
 use mathlib.Core.Bool.{Bool, true, false, cond, ◌||◌}
-use mathlib.Core.List.{List, [], ◌∷◌, ◌++◌, map}
+use Rattle.std.specs.Prelude.{Some}
+use mathlib.Core.List.{List, [], ◌∷◌}
 use Prim.Native.Nat.{ℕ, suc, ◌+◌, ◌-◌, ◌<◌, ◌≤◌}
 use native.Mathlib.Omega.{arith}
 use lib.Dec.{T, eqb, leb, ltb, leb→le, ltb→lt}
-use lib.ListN.{length, get_or, take, replicate}
+use lib.ListN.{length, get_or}
 use borrow.Author.Tests.{eq-eqb, ne_eqb}
 use Rattle.words.specs.Bytes.{same}
 use Rattle.words.specs.Inner.{all}
-use Rattle.words.proofs.Bytes.{same-eq, read_off}
+use Rattle.words.proofs.Bytes.{read_off}
 use Rattle.words.proofs.Loops.{all-at}
-use Rattle.mode.specs.Table.{row, mode_of, one_of, has_depth}
+use Rattle.mode.specs.Table.{row, one_of, has_depth}
 use Rattle.mode.specs.Inner.{depth_at, three, numbers}
-use Rattle.mode.specs.Names.{names, name_of, named_from}
-use Rattle.mode.specs.declared.Named.TheVariants.{Console}
+use Rattle.mode.specs.Names.{name_of, named_from}
 
 -- the bits of an entry's fields, read off a row that is the mode's: twelve at most
 pub bits-off : (k : ℕ) → k < 4 → {m r : ℕ} {l : List ℕ} → m < 16 → r ≡ get_or l (5 + k) 0 → l ≡ numbers (row m) → (r ≡ get_or (numbers (row m)) (5 + k) 0) × (r ≤ 12)
@@ -65,25 +65,8 @@ module _ (m d : ℕ) (h : m < 16) where
   pub third-depth : (d ≡ depth_at 0 (row m).depths → ⊥) → (d ≡ depth_at 1 (row m).depths → ⊥) → eqb d (depth_at 2 (row m).depths) ≡ has_depth m d
   third-depth n k = sym (rw (ne_eqb _ _ n, ne_eqb _ _ k, or-none) at (sym (depth-right m h d)))
 
--- the code's tables of names
-abbrev pub lengths : List ℕ
-lengths = map length names
-
-abbrev pub padded : List (List ℕ)
-padded = map (λ l. l ++ replicate (10 - length l) 0) names
-
-pub name-inside : (m : ℕ) → m < 16 → get_or lengths m 0 ≤ length (get_or padded m [])
-name-inside m h =
-    leb→le (get_or lengths m 0) (length (get_or padded m [])) (all-at 16 (λ k. leb (get_or lengths k 0) (length (get_or padded k []))) tt m h)
-
-pub name-right : (m : ℕ) → m < 16 → take (get_or lengths m 0) (get_or padded m []) ≡ name_of m
-unfolding name_of
-name-right m h =
-    same-eq (take (get_or lengths m 0) (get_or padded m [])) (name_of m)
-    (all-at 16 (λ k. same (take (get_or lengths k 0) (get_or padded k [])) (name_of k)) tt m h)
-
 -- one name more
-pub next-name : (s : List ℕ) (m : ℕ) → m < 16 → named_from s m (16 - m) ≡ cond (same s (name_of m)) (Console (mode_of m)) (named_from s (m + 1) (16 - (m + 1)))
+pub next-name : (s : List ℕ) (m : ℕ) → m < 16 → named_from s m (16 - m) ≡ cond (same s (name_of m)) (Some m) (named_from s (m + 1) (16 - (m + 1)))
 next-name s m h =
     let e : 16 - m ≡ suc (16 - (m + 1)) = omega arith in
     rw e

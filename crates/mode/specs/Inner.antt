@@ -1,9 +1,8 @@
 -- Inner shapes: what the code and its proofs compute on the way; no promise and no law reaches it.
 -- Assumes nothing.
-use Rattle.std.specs.Prelude.{ℕ, zero, suc, ◌≤◌, List, [], ◌∷◌, ◌++◌, map}
+use Rattle.std.specs.Prelude.{ℕ, zero, suc, ◌≤◌, List, [], ◌∷◌, ◌++◌}
 use Rattle.mode.specs.declared.EntryBits.{EntryBits}
-use Rattle.mode.specs.declared.Mode.{Mode}
-use Rattle.mode.specs.Table.{Row, mode_of}
+use Rattle.mode.specs.Table.{Row}
 
 -- How many bits each field of an entry has: twelve at most.
 abbrev pub entry_bits : Row → EntryBits
@@ -29,5 +28,5 @@ abbrev pub numbers : Row → List ℕ
 numbers r = three r.depths ++ r.top ∷ r.entry ∷ r.tile ∷ r.palette ∷ r.flips ∷ r.priority ∷ []
 
 -- "Modes are numbered 0 to 15 in this order."
-abbrev pub consoles : List Mode
-consoles = map mode_of (0 ∷ 1 ∷ 2 ∷ 3 ∷ 4 ∷ 5 ∷ 6 ∷ 7 ∷ 8 ∷ 9 ∷ 10 ∷ 11 ∷ 12 ∷ 13 ∷ 14 ∷ 15 ∷ [])
+abbrev pub consoles : List ℕ
+consoles = 0 ∷ 1 ∷ 2 ∷ 3 ∷ 4 ∷ 5 ∷ 6 ∷ 7 ∷ 8 ∷ 9 ∷ 10 ∷ 11 ∷ 12 ∷ 13 ∷ 14 ∷ 15 ∷ []

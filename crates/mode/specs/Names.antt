@@ -1,10 +1,7 @@
 -- The modes' names, "compared byte by byte".
 -- Assumes nothing.
-use Rattle.std.specs.Prelude.{ℕ, zero, suc, ◌+◌, cond, List, [], ◌∷◌, get_or}
+use Rattle.std.specs.Prelude.{ℕ, zero, suc, ◌+◌, cond, List, [], ◌∷◌, get_or, Option, Some, None}
 use Rattle.words.specs.Bytes.{same}
-use Rattle.mode.specs.Table.{mode_of}
-use Rattle.mode.specs.declared.Named.{Named}
-use Rattle.mode.specs.declared.Named.TheVariants.{Console, Nothing}
 
 -- snes, snes_mode7, gb, gbc, gba, gba_affine, md, sms, gg, pce, pce_sprite, ngp, ngpc, ws, wsc, wsc_packed
 abbrev pub names : List (List ℕ)
@@ -31,9 +28,9 @@ unfoldable pub name_of : ℕ → List ℕ
 name_of m = get_or names m []
 
 -- The first mode from m on, of k, that the bytes name.
-abbrev pub named_from : List ℕ → ℕ → ℕ → Named
-named_from s m zero = Nothing
-named_from s m (suc k) = cond (same s (name_of m)) (Console (mode_of m)) (named_from s (m + 1) k)
+abbrev pub named_from : List ℕ → ℕ → ℕ → Option ℕ
+named_from s m zero = None
+named_from s m (suc k) = cond (same s (name_of m)) (Some m) (named_from s (m + 1) k)
 
-abbrev pub mode_named : List ℕ → Named
+abbrev pub mode_named : List ℕ → Option ℕ
 mode_named s = named_from s 0 16

@@ -1,7 +1,7 @@
 -- "Sixteen modes": the table of document 01.
 -- Assumes nothing.
-use Rattle.std.specs.Prelude.{ℕ, Bool, false, ◌||◌, List, [], ◌∷◌, eqb, get_or}
-use Rattle.mode.specs.declared.Mode.{Mode}
+use Rattle.std.specs.Prelude.{ℕ, ◌≡◌, ◌<◌, Bool, false, ◌||◌, List, [], ◌∷◌, eqb, get_or, Result, MatchResult}
+use Rattle.words.specs.declared.refusal.Refusal.{Refusal}
 
 -- One mode's row. "None" is 0; flips and priority are how many bits each has in an entry, 1 or 0.
 pub record Row : Type 0 where
@@ -67,5 +67,6 @@ pce-sprite = 10
 abbrev pub ngp : ℕ
 ngp = 11
 
-abbrev pub mode_of : ℕ → Mode
-mode_of m = record { 0 = m }
+-- "Mode number above 15" is refused; any other is a mode's.
+abbrev pub IsMode : ℕ → Result ℕ Refusal → Type 0
+IsMode n r = MatchResult r (λ m. (m ≡ n) × (n < 16)) (λ e. (e ≡ Refusal.Mode) × (15 < n))

@@ -1,13 +1,14 @@
 // The sixteen modes: document 01's table, and the modes' names.
 #![tactic(auto)]
 
-pub mod console;
-
 ghost use Rattle.std.specs.Prelude.{◌≡◌, ◌<◌, ◌≤◌, get_or};
 ghost use Rattle.words.specs.Bytes.{same};
-ghost use Rattle.mode.specs.Table.{row, has_depth};
+ghost use Rattle.mode.specs.Table.{row, has_depth, IsMode};
 ghost use Rattle.mode.specs.Inner.{numbers, entry_bits, Few, consoles};
 ghost use Rattle.mode.specs.Names.{name_of, mode_named};
+
+use std::marker::Model;
+use words::refusal::Refusal;
 
 // All sixteen modes in one fixed table. A mode with fewer than three depths repeats its last; flips and priority are numbers of bits.
 // depths, top, entry bytes, tile bits, palette bits, flips, priority
@@ -30,34 +31,24 @@ const ROWS: [[u8; 9]; 16] = [
     [4, 4, 4, 15, 2, 10, 4, 1, 0], // wsc_packed
 ];
 
-// Each name, with zeros after it to ten bytes, and its length.
-pub const NAMES: [[u8; 10]; 16] = [
-    *b"snes\0\0\0\0\0\0",
-    *b"snes_mode7",
-    *b"gb\0\0\0\0\0\0\0\0",
-    *b"gbc\0\0\0\0\0\0\0",
-    *b"gba\0\0\0\0\0\0\0",
-    *b"gba_affine",
-    *b"md\0\0\0\0\0\0\0\0",
-    *b"sms\0\0\0\0\0\0\0",
-    *b"gg\0\0\0\0\0\0\0\0",
-    *b"pce\0\0\0\0\0\0\0",
-    *b"pce_sprite",
-    *b"ngp\0\0\0\0\0\0\0",
-    *b"ngpc\0\0\0\0\0\0",
-    *b"ws\0\0\0\0\0\0\0\0",
-    *b"wsc\0\0\0\0\0\0\0",
-    *b"wsc_packed",
-];
+#[derive(Clone, Copy, Debug, PartialEq, Eq, Hash)]
+pub struct Mode(u32);
 
-pub const LENGTHS: [usize; 16] = [4, 10, 2, 3, 3, 10, 2, 3, 2, 3, 10, 3, 4, 2, 3, 10];
+// A mode, known by its number, "numbered 0 to 15 in this order": a clause sees the number, which is always a mode's.
+impl Model for Mode {
+    ghost use Rattle.std.specs.Prelude.{ℕ, ◌<◌};
 
-// A mode by its number.
-#[derive(Clone, Copy)]
-pub struct Mode(pub u32);
+    ghost Value = { ℕ };
+
+    ghost view = { λ m. m.0 };
+
+    ghost invariant = { λ m. m.0 < 16 };
+
+    ghost inverse = { λ n. record { 0 = n } };
+}
 
 // How many bits each field of an entry has.
-#[derive(Clone, Copy)]
+#[derive(Clone, Copy, Debug, PartialEq, Eq, Hash)]
 pub struct EntryBits {
     pub tile: u32,
     pub palette: u32,
@@ -66,157 +57,212 @@ pub struct EntryBits {
 }
 
 impl Mode {
-    pub const SNES: Mode = Mode(console::SNES);
+    pub const SNES: Mode = Mode(0);
 
-    pub const SNES_MODE7: Mode = Mode(console::SNES_MODE7);
+    pub const SNES_MODE7: Mode = Mode(1);
 
-    pub const GB: Mode = Mode(console::GB);
+    pub const GB: Mode = Mode(2);
 
-    pub const GBC: Mode = Mode(console::GBC);
+    pub const GBC: Mode = Mode(3);
 
-    pub const GBA: Mode = Mode(console::GBA);
+    pub const GBA: Mode = Mode(4);
 
-    pub const GBA_AFFINE: Mode = Mode(console::GBA_AFFINE);
+    pub const GBA_AFFINE: Mode = Mode(5);
 
-    pub const MD: Mode = Mode(console::MD);
+    pub const MD: Mode = Mode(6);
 
-    pub const SMS: Mode = Mode(console::SMS);
+    pub const SMS: Mode = Mode(7);
 
-    pub const GG: Mode = Mode(console::GG);
+    pub const GG: Mode = Mode(8);
 
-    pub const PCE: Mode = Mode(console::PCE);
+    pub const PCE: Mode = Mode(9);
 
-    pub const PCE_SPRITE: Mode = Mode(console::PCE_SPRITE);
+    pub const PCE_SPRITE: Mode = Mode(10);
 
-    pub const NGP: Mode = Mode(console::NGP);
+    pub const NGP: Mode = Mode(11);
 
-    pub const NGPC: Mode = Mode(console::NGPC);
+    pub const NGPC: Mode = Mode(12);
 
-    pub const WS: Mode = Mode(console::WS);
+    pub const WS: Mode = Mode(13);
 
-    pub const WSC: Mode = Mode(console::WSC);
+    pub const WSC: Mode = Mode(14);
 
-    pub const WSC_PACKED: Mode = Mode(console::WSC_PACKED);
+    pub const WSC_PACKED: Mode = Mode(15);
+
+    // The mode of a number that is known to be one's.
+    pub fn at(number: u32) -> Mode
+        requires { number < 16 }
+        ensures { result ≡ number }
+    {
+        Mode(number)
+    }
+
+    // The mode's number.
+    pub fn number(self) -> u32
+        ensures { (result ≡ self) × (result < 16) }
+    {
+        self.0
+    }
 
     // The mode's numbers, as the table has them. A match, for a variable index would copy the table to the stack at each use.
+    #[tactic(auto, unfolding(crate::specs::Table::row))]
     pub fn row(self) -> [u8; 9]
-        requires { self.0 < 16 }
-        ensures { result ≡ numbers (row self.0) }
+        ensures row { result ≡ numbers (row self) }
+        ensures mode { self < 16 }
     {
         let rows = ROWS;
-        let number = self.0;
-        match number {
-            console::SNES => rows[0],
-            console::SNES_MODE7 => rows[1],
-            console::GB => rows[2],
-            console::GBC => rows[3],
-            console::GBA => rows[4],
-            console::GBA_AFFINE => rows[5],
-            console::MD => rows[6],
-            console::SMS => rows[7],
-            console::GG => rows[8],
-            console::PCE => rows[9],
-            console::PCE_SPRITE => rows[10],
-            console::NGP => rows[11],
-            console::NGPC => rows[12],
-            console::WS => rows[13],
-            console::WSC => rows[14],
+        match self {
+            Mode::SNES => rows[0],
+            Mode::SNES_MODE7 => rows[1],
+            Mode::GB => rows[2],
+            Mode::GBC => rows[3],
+            Mode::GBA => rows[4],
+            Mode::GBA_AFFINE => rows[5],
+            Mode::MD => rows[6],
+            Mode::SMS => rows[7],
+            Mode::GG => rows[8],
+            Mode::PCE => rows[9],
+            Mode::PCE_SPRITE => rows[10],
+            Mode::NGP => rows[11],
+            Mode::NGPC => rows[12],
+            Mode::WS => rows[13],
+            Mode::WSC => rows[14],
             _ => rows[15],
         }
     }
 
     // Whether the depth is one of the mode's.
     pub fn has_depth(self, depth: u32) -> bool
-        requires { self.0 < 16 }
-        ensures { result ≡ has_depth self.0 depth }
+        ensures { result ≡ has_depth self depth }
     {
         let r = self.row();
-        if depth == words::wide(r[0]) {
+        if depth == u32::from(r[0]) {
             return true;
         }
-        if depth == words::wide(r[1]) {
+        if depth == u32::from(r[1]) {
             return true;
         }
-        depth == words::wide(r[2])
+        depth == u32::from(r[2])
     }
 
     // The largest colour component.
     pub fn top(self) -> u32
-        requires { self.0 < 16 }
-        ensures { result ≡ (row self.0).top }
+        ensures { result ≡ (row self).top }
     {
         let r = self.row();
-        words::wide(r[3])
+        u32::from(r[3])
     }
 
     // How many bytes an entry has.
     pub fn entry_size(self) -> u32
-        requires { self.0 < 16 }
-        ensures { result ≡ (row self.0).entry }
+        ensures { result ≡ (row self).entry }
     {
         let r = self.row();
-        words::wide(r[4])
+        u32::from(r[4])
     }
 
     // How many bits of an entry the tile index has.
     pub fn tile_bits(self) -> u32
-        requires { self.0 < 16 }
-        ensures { (result ≡ (row self.0).tile) × (result ≤ 12) }
+        ensures { (result ≡ (row self).tile) × (result ≤ 12) }
     {
         let r = self.row();
-        words::wide(r[5])
+        u32::from(r[5])
     }
 
     // How many bits of an entry the palette index has.
     pub fn palette_bits(self) -> u32
-        requires { self.0 < 16 }
-        ensures { (result ≡ (row self.0).palette) × (result ≤ 12) }
+        ensures { (result ≡ (row self).palette) × (result ≤ 12) }
     {
         let r = self.row();
-        words::wide(r[6])
+        u32::from(r[6])
     }
 
     // How many bits of an entry each flip has.
     pub fn flip_bits(self) -> u32
-        requires { self.0 < 16 }
-        ensures { (result ≡ (row self.0).flips) × (result ≤ 12) }
+        ensures { (result ≡ (row self).flips) × (result ≤ 12) }
     {
         let r = self.row();
-        words::wide(r[7])
+        u32::from(r[7])
     }
 
     // How many bits of an entry priority has.
     pub fn priority_bits(self) -> u32
-        requires { self.0 < 16 }
-        ensures { (result ≡ (row self.0).priority) × (result ≤ 12) }
+        ensures { (result ≡ (row self).priority) × (result ≤ 12) }
     {
         let r = self.row();
-        words::wide(r[8])
+        u32::from(r[8])
     }
 
     // The four at once, with one look at the table.
     pub fn entry_bits(self) -> EntryBits
-        requires { self.0 < 16 }
-        ensures { (result ≡ entry_bits (row self.0)) × Few result }
+        ensures { (result ≡ entry_bits (row self)) × Few result }
     {
         let r = self.row();
         EntryBits {
-            tile: words::wide(r[5]),
-            palette: words::wide(r[6]),
-            flips: words::wide(r[7]),
-            priority: words::wide(r[8]),
+            tile: u32::from(r[5]),
+            palette: u32::from(r[6]),
+            flips: u32::from(r[7]),
+            priority: u32::from(r[8]),
+        }
+    }
+
+    // The mode's name.
+    #[tactic(auto, unfolding(crate::specs::Names::name_of))]
+    pub fn name(self) -> &'static [u8]
+        ensures { result.now ≡ name_of self }
+    {
+        match self {
+            Mode::SNES => b"snes",
+            Mode::SNES_MODE7 => b"snes_mode7",
+            Mode::GB => b"gb",
+            Mode::GBC => b"gbc",
+            Mode::GBA => b"gba",
+            Mode::GBA_AFFINE => b"gba_affine",
+            Mode::MD => b"md",
+            Mode::SMS => b"sms",
+            Mode::GG => b"gg",
+            Mode::PCE => b"pce",
+            Mode::PCE_SPRITE => b"pce_sprite",
+            Mode::NGP => b"ngp",
+            Mode::NGPC => b"ngpc",
+            Mode::WS => b"ws",
+            Mode::WSC => b"wsc",
+            _ => b"wsc_packed",
         }
     }
 
     // Whether the bytes are the mode's name.
     pub fn is_named(self, s: &[u8]) -> bool
-        requires { self.0 < 16 }
-        ensures { result ≡ same s.now (name_of self.0) }
+        ensures { result ≡ same s.now (name_of self) }
     {
-        let m = self.0 as usize;
-        let name = NAMES[m];
-        let n = LENGTHS[m];
-        words::same_bytes(s, &name[..n])
+        words::same_bytes(s, self.name())
+    }
+
+    // The mode that the bytes name.
+    pub fn named(s: &[u8]) -> Option<Mode>
+        ensures { result ≡ mode_named s.now }
+    {
+        for number in 0..16 {
+            let mode = Mode(number);
+            if mode.is_named(s) {
+                return Some(mode);
+            }
+        }
+        None
+    }
+}
+
+// "Mode number above 15" is refused.
+impl TryFrom<u32> for Mode {
+    type Error = Refusal;
+
+    ghost try_from_gives = { IsMode };
+
+    fn try_from(number: u32) -> Result<Mode, Refusal> {
+        if 15 < number {
+            return Err(Refusal::Mode);
+        }
+        Ok(Mode(number))
     }
 }
 
@@ -242,25 +288,4 @@ pub fn consoles() -> [Mode; 16]
         Mode::WSC,
         Mode::WSC_PACKED,
     ]
-}
-
-// What a name is the name of.
-#[derive(Clone, Copy)]
-pub enum Named {
-    Console(Mode),
-    Nothing,
-}
-
-// The mode that the bytes name.
-pub fn mode_named(s: &[u8]) -> Named
-    ensures { result ≡ mode_named s.now }
-{
-    let mut m: u32 = 0;
-    while m < 16 {
-        if Mode(m).is_named(s) {
-            return Named::Console(Mode(m));
-        }
-        m += 1;
-    }
-    Named::Nothing
 }

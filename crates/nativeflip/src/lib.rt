@@ -4,11 +4,13 @@
 pub mod reversed;
 pub mod turns;
 
-ghost use Rattle.std.specs.Prelude.{◌≡◌, true, false, length};
+ghost use Rattle.std.specs.Prelude.{◌≡◌, true, false, length, IfOk};
 ghost use Rattle.std.proofs.lemmas.List.Edits.{sets};
 ghost use Rattle.words.specs.Answers.{Wrote};
+ghost use Rattle.words.specs.Refusals.{answered, written_by};
 ghost use Rattle.tile.specs.Inner.{packed_in, unpacked_in};
 ghost use Rattle.tile.specs.Layout.{spread};
+ghost use Rattle.tile.specs.Tile.{packing_of};
 ghost use Rattle.flip.specs.Flips.{flip, flipped};
 ghost use Rattle.nativeflip.specs.Flipping.{flip_says, flipped_bytes};
 ghost use Rattle.nativeflip.specs.Inner.{planes_turned, pixels_turned, HasRows, HasTile};
@@ -16,31 +18,31 @@ ghost use Rattle.nativeflip.specs.Inner.{planes_turned, pixels_turned, HasRows, 
 use crate::reversed::REVERSED;
 use crate::turns::{put_reversed, put_rows, put_turned};
 use flip::Flip;
-use mode::{Mode, console};
+use mode::Mode;
 use tile::Packing;
-use words::{Written, refusal};
+use words::refusal::Refusal;
 
-fn flip_says(mode: u32, depth: u32, len: usize, space: usize) -> u32
-    ensures { result ≡ flip_says mode depth len space }
+// How the tile is packed, where a mode has such tiles.
+#[tactic(auto, unfolding(crate::specs::Flipping::flip_says))]
+fn flip_says(mode: u32, depth: u32, len: usize, space: usize) -> Result<Packing, Refusal>
+    ensures says { answered result ≡ flip_says mode depth len space }
+    ensures packing { IfOk result (λ p. p ≡ packing_of mode depth 8 8) }
 {
-    if 15 < mode {
-        return refusal::MODE;
+    let m = Mode::try_from(mode)?;
+    if m == Mode::PCE_SPRITE {
+        return Err(Refusal::PceSprite);
     }
-    if mode == console::PCE_SPRITE {
-        return refusal::PCE_SPRITE;
-    }
-    let m = Mode(mode);
     if !m.has_depth(depth) {
-        return refusal::DEPTH;
+        return Err(Refusal::Depth);
     }
     let size = depth as usize * 8;
     if len != size {
-        return refusal::LENGTH;
+        return Err(Refusal::Length);
     }
     if space < size {
-        return refusal::OUTPUT;
+        return Err(Refusal::Output);
     }
-    0
+    Ok(tile::packing_of(m, depth, 8, 8))
 }
 
 // Planes with each row in reverse order. The table is lent here, once a call: indexed where it is read, it would be written to the stack for each
@@ -63,26 +65,12 @@ fn put_planes(group: usize, depth: usize, f: Flip, bytes: &[u8], out: &mut [u8])
     put_rows(group, depth, f.v, bytes, out);
 }
 
-// Pixels that stand one after the other, of 2, 4 and 8 bits: a function each, so that the bits are a number when it is compiled.
-fn put_pairs(f: Flip, bytes: &[u8], out: &mut [u8])
-    requires { HasRows 2 2 f.h bytes.now out.old }
-    ensures { out.new ≡ sets out.old 0 (spread (pixels_turned 2 f.h f.v (length bytes.now)) bytes.now) }
+// Pixels that stand one after the other, of so many bits: these are a number when it is compiled.
+fn put_pixels<const BITS: usize>(f: Flip, bytes: &[u8], out: &mut [u8])
+    requires { HasRows BITS BITS f.h bytes.now out.old }
+    ensures { out.new ≡ sets out.old 0 (spread (pixels_turned BITS f.h f.v (length bytes.now)) bytes.now) }
 {
-    put_turned(2, 2, f, bytes, out);
-}
-
-fn put_nibbles(f: Flip, bytes: &[u8], out: &mut [u8])
-    requires { HasRows 4 4 f.h bytes.now out.old }
-    ensures { out.new ≡ sets out.old 0 (spread (pixels_turned 4 f.h f.v (length bytes.now)) bytes.now) }
-{
-    put_turned(4, 4, f, bytes, out);
-}
-
-fn put_plain(f: Flip, bytes: &[u8], out: &mut [u8])
-    requires { HasRows 8 8 f.h bytes.now out.old }
-    ensures { out.new ≡ sets out.old 0 (spread (pixels_turned 8 f.h f.v (length bytes.now)) bytes.now) }
-{
-    put_turned(8, 8, f, bytes, out);
+    put_turned(BITS, BITS, f, bytes, out);
 }
 
 // The bytes of a flipped tile of any packing but a sprite's.
@@ -92,13 +80,13 @@ fn put_flipped(p: Packing, f: Flip, bytes: &[u8], out: &mut [u8])
 {
     match p {
         Packing::Planar { group, depth } => put_planes(group, depth, f, bytes, out),
-        Packing::Ngp => put_pairs(f, bytes, out),
-        Packing::Plain => put_plain(f, bytes, out),
-        _ => put_nibbles(f, bytes, out),
+        Packing::Ngp => put_pixels::<2>(f, bytes, out),
+        Packing::Plain => put_pixels::<8>(f, bytes, out),
+        _ => put_pixels::<4>(f, bytes, out),
     }
 }
 
-// Flips a native 8x8 tile.
+// Flips a native 8x8 tile, and answers how many bytes it wrote.
 pub fn flip_tile(
     mode: u32,
     depth: u32,
@@ -106,21 +94,14 @@ pub fn flip_tile(
     flip_v: bool,
     bytes: &[u8],
     out: &mut [u8],
-) -> Written
-    ensures { Wrote (flip_says mode depth (length bytes.now) (length out.old)) (flipped_bytes mode depth (flip flip_h flip_v) bytes.now) out.old result out.new }
+) -> Result<usize, Refusal>
+    ensures { Wrote (flip_says mode depth (length bytes.now) (length out.old)) (flipped_bytes mode depth (flip flip_h flip_v) bytes.now) out.old (written_by result) out.new }
 {
-    let refusal = flip_says(mode, depth, bytes.len(), out.len());
-    if refusal != 0 {
-        return words::refused(refusal);
-    }
-    let p = tile::packing_of(Mode(mode), depth, 8, 8);
+    let p = flip_says(mode, depth, bytes.len(), out.len())?;
     let f = Flip {
         h: flip_h,
         v: flip_v,
     };
     put_flipped(p, f, bytes, out);
-    Written {
-        refusal: 0,
-        written: bytes.len(),
-    }
+    Ok(bytes.len())
 }

@@ -100,24 +100,20 @@ pub fn put_turned(row: usize, n: usize, f: Flip, bytes: &[u8], out: &mut [u8])
     requires { HasRows row n f.h bytes.now out.old }
     ensures { out.new ≡ sets out.old 0 (spread (pixels_turned row f.h f.v (length bytes.now)) bytes.now) }
 {
-    let mut b = 0;
-    while b < n {
+    for b in 0..n {
         words::put_bytes(out, b * 8, turned_word(row, f, bytes, b));
-        b += 1;
     }
 }
 
-// A tile of n words of planes, with its rows in reverse order or not. It is the loop above for this one flip: with planes for a
-// caller more, that loop was not compiled into the one for two-bit pixels.
+// A tile of n words of planes, with its rows in reverse order or not. It is the loop above for this one flip: with planes for a caller more, that loop
+// was not compiled into the one for two-bit pixels.
 pub fn put_rows(row: usize, n: usize, down: bool, bytes: &[u8], out: &mut [u8])
     requires { HasRows row n false bytes.now out.old }
     ensures { out.new ≡ sets out.old 0 (spread (planes_turned row false down (length bytes.now)) bytes.now) }
 {
     let f = Flip { h: false, v: down };
-    let mut b = 0;
-    while b < n {
+    for b in 0..n {
         words::put_bytes(out, b * 8, turned_word(row, f, bytes, b));
-        b += 1;
     }
 }
 
@@ -126,7 +122,7 @@ fn reversed_byte(table: &[u8; 256], w: u64, m: usize) -> u64
     requires { Reverses table.now × (m < 8) }
     ensures { (result ≡ reversed (byte_in w m)) × (result < 256) }
 {
-    words::widen(table[((w >> (m * 8)) % 256) as usize])
+    u64::from(table[((w >> (m * 8)) % 256) as usize])
 }
 
 // All bytes of a word so.
@@ -158,13 +154,11 @@ pub fn put_reversed(
     ensures { out.new ≡ sets out.old 0 (spread (planes_turned row true down (length bytes.now)) bytes.now) }
 {
     let f = Flip { h: false, v: down };
-    let mut b = 0;
-    while b < n {
+    for b in 0..n {
         words::put_bytes(
             out,
             b * 8,
             reverse_word(table, turned_word(row, f, bytes, b)),
         );
-        b += 1;
     }
 }

@@ -1,3 +1,4 @@
+pub mod Refusing
 pub mod Checks
 pub mod Cells
 pub mod Kept

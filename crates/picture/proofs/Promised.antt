@@ -10,7 +10,10 @@ use lib.ListN.{length, get_or, length-map, length-replicate, get_or-replicate, r
 use lib.Seq.{sets}
 use borrow.Author.Tests.{lt-ltb, le-ltb, eq-eqb, ne_eqb}
 use Rattle.words.specs.Answers.{◌when◌, first_applying}
+use Rattle.words.specs.Refusals.{refusal_number}
 use Rattle.words.specs.Bytes.{bit}
+use Rattle.words.specs.declared.refusal.Refusal.{Refusal}
+use Rattle.std.specs.Prelude.{Ok, Err}
 use Rattle.words.specs.Loops.{each}
 use Rattle.words.proofs.Answers.{when-done, when-refused}
 use Rattle.words.proofs.Items.{each-eq}
@@ -25,17 +28,21 @@ use Rattle.tileset.proofs.Keeping.{kept-count}
 use Rattle.tileset.proofs.NumberLaws.{first-8}
 use Rattle.tileset.proofs.Stores.{tiles-long}
 use Rattle.picture.specs.Entries.{entry_as, entry_for}
-use Rattle.picture.specs.Converting.{places, picture_tiles, picture_room, pictured}
+use Rattle.picture.specs.Converting.{places, picture_tiles, picture_room, pictured, picture_by}
 use Rattle.picture.specs.Continuing.{unpacked_tiles, stored_after, discarded_after, found_after, tile_bytes_after, map_bytes_after, GoesOn}
-use Rattle.picture.specs.Inner.{IsPicture, CanGoOn, tile_at, code_of, entry_coded, Stored, gathered_says, GatheredWith, GatheredAs, put_tiles, put_entries, PutsPicture, PutAs, goes_on_says}
+use Rattle.picture.specs.Inner.{IsPicture, CanGoOn, tile_at, code_of, entry_coded, Stored, tiles_of, first_tiles, HasStored, Indexes, Gathers, GatheredWith, put_tiles, put_entries, PutsPicture, PutAs, goes_on_says}
 use Rattle.picture.specs.declared.Settings.{Settings}
+use Rattle.picture.specs.declared.Counts.{Counts}
 use Rattle.picture.specs.declared.Picture.{Picture}
-use Rattle.picture.specs.declared.Gathered.{Gathered}
-use Rattle.picture.specs.declared.Gathered.TheVariants.{Count, NoRoom}
+use Rattle.picture.specs.declared.stored.Source.{Source}
+use Rattle.picture.specs.declared.stored.Store.{Store}
 use Rattle.picture.proofs.Cells.{some-8}
+use Rattle.words.proofs.Refusing.{refusal-not-done}
+use Rattle.picture.proofs.Refusing.{picture-refused}
 use Rattle.picture.proofs.Checks.{some-depth, room-named, room_most, room-bytes}
-use Rattle.picture.proofs.Room.{above}
 use Rattle.picture.proofs.Converted.{length-tiles, look-fits}
+use Rattle.index.specs.Inner.{Indexed}
+use Rattle.picture.proofs.Storing.{is-full}
 use Rattle.picture.proofs.Tiles.{stored-long, stored_at, is-taken}
 
 -- ---- an entry, from its code
@@ -96,6 +103,20 @@ none-taken {z} {pixels} {tiles} c =
 pub no-heads : (b : ℕ) → b < 4096 → get_or {A = ℕ} (replicate 4096 0) b 0 ≡ 0
 no-heads b lt = get_or-replicate 4096 b 0 0 lt
 
+-- with the index of those that are written
+pub gather-start : {s : Source} {t u : Store} {room : ℕ} {codes : List ℕ} → HasStored s t t.held → Indexes s t t.held u → t.held ≤ room → room ≤ 4096 → length codes ≡ 4096
+    → Gathers s u room codes
+gather-start {s} {t} {u} stored i within most long =
+    let same : tiles_of s u ≡ first_tiles s t t.held = rw (i.held, i.from, i.count) in
+    record {
+      stored = rw (i.held, i.from, i.count) stored;
+      written = i.count ∙ sym i.held;
+      within = omega (arith, i.held);
+      most = most;
+      index = subst (λ (ts : List (List ℕ)). Indexed s.settings.flip ts u.index) (sym same) i.index;
+      long = long;
+    }
+
 -- ---- the number
 
 module _ (z : Settings) (pixels : List ℕ) (had : List (List ℕ)) (discarded tile_space : ℕ) where
@@ -112,6 +133,11 @@ module _ (z : Settings) (pixels : List ℕ) (had : List (List ℕ)) (discarded t
   pub goes-12 : picture_room z tile_space < need → 12 ≡ goes_on_says z pixels had discarded tile_space
   goes-12 full = sym (says_of true (ltb 4294967295 total) (lt-ltb (picture_room z tile_space) need full) refl)
 
+  pub goes-full : (e : Refusal) → refusal_number e ≡ 12 when ltb (picture_room z tile_space) need → refusal_number e ≡ goes_on_says z pixels had discarded tile_space
+  goes-full e given =
+      let full = is-full (picture_room z tile_space) e need given in
+      given ∙ ap (λ (b : Bool). 12 when b) (lt-ltb (picture_room z tile_space) need full) ∙ goes-12 full
+
   module _ (room : need ≤ picture_room z tile_space) where
     pub goes-13 : 4294967295 < total → 13 ≡ goes_on_says z pixels had discarded tile_space
     goes-13 many = sym (says_of false true (le-ltb (picture_room z tile_space) need room) (lt-ltb 4294967295 total many))
@@ -121,17 +147,22 @@ module _ (z : Settings) (pixels : List ℕ) (had : List (List ℕ)) (discarded t
 
 -- ---- what was gathered
 
-pub no_room : {z : Settings} {pixels bytes : List ℕ} {held room : ℕ} {from codes : List ℕ} {r : Gathered}
-    → GatheredAs z pixels bytes held room from codes r → r ≡ NoRoom → room < length (stored_after z pixels (unpacked_tiles z bytes held))
-no_room {z} {pixels} {bytes} {held} {room} g e = above room (length (stored_after z pixels (unpacked_tiles z bytes held))) (sym g.says ∙ ap gathered_says e)
+module _ {s : Source} {room : ℕ} {t : Store} {codes : List ℕ} (g : GatheredWith s room t codes) where
+  abbrev z : Settings
+  z = s.settings
 
-pub counted : {z : Settings} {pixels bytes : List ℕ} {held room : ℕ} {from codes : List ℕ} {r : Gathered} {count : ℕ}
-    → GatheredAs z pixels bytes held room from codes r → r ≡ Count count → GatheredWith z pixels bytes held room from codes count
-counted {z} {pixels} {bytes} {held} {room} {from} {codes} {count = count} g e =
-    let w : GatheredAs z pixels bytes held room from codes (Count count) = subst (GatheredAs z pixels bytes held room from codes) e g in
-    w.values
+  abbrev pixels : List ℕ
+  pixels = s.pixels.now
 
-module _ {z : Settings} {pixels bytes : List ℕ} {held room : ℕ} {from codes : List ℕ} {count : ℕ} (g : GatheredWith z pixels bytes held room from codes count) where
+  abbrev bytes : List ℕ
+  bytes = s.tiles.now
+
+  abbrev held : ℕ
+  held = t.held
+
+  abbrev count : ℕ
+  count = t.count
+
   abbrev had : List (List ℕ)
   had = unpacked_tiles z bytes held
 
@@ -139,25 +170,25 @@ module _ {z : Settings} {pixels bytes : List ℕ} {held room : ℕ} {from codes 
   stored = stored_after z pixels had
 
   pub stored-count : length stored ≡ count
-  stored-count = ap (λ (ts : List (List ℕ)). length ts) (sym g.is) ∙ stored-long z pixels bytes held from count
+  stored-count = ap (λ (ts : List (List ℕ)). length ts) (sym g.is) ∙ stored-long z pixels bytes held t.from count
 
   pub sum-after : count + discarded_after z pixels had ≡ held + places z
   sum-after = omega (arith, stored-count, counted-after z pixels had, had-long z bytes held)
 
   -- ---- the bytes
 
-  tile-there : (k : ℕ) → k < count - held → tile_at z pixels (get_or from (held + k) 0) ≡ get_or stored (length had + k) []
+  tile-there : (k : ℕ) → k < count - held → tile_at z pixels (get_or t.from (held + k) 0) ≡ get_or stored (length had + k) []
   tile-there k lt =
-      sym (is-taken z pixels bytes held from (held + k) (omega arith))
-      ∙ sym (stored_at z pixels bytes held from count (held + k) (omega arith))
+      sym (is-taken z pixels bytes held t.from (held + k) (omega arith))
+      ∙ sym (stored_at z pixels bytes held t.from count (held + k) (omega arith))
       ∙ ap (λ (ts : List (List ℕ)). get_or ts (held + k) []) g.is
       ∙ ap (λ (n : ℕ). get_or stored (n + k) []) (sym (had-long z bytes held))
 
-  tiles-written : put_tiles z pixels from held (count - held) ≡ tile_bytes_after z pixels had
+  tiles-written : put_tiles z pixels t ≡ tile_bytes_after z pixels had
   unfolding tile_bytes_after
   tiles-written =
       let more : count - held ≡ length stored - length had = omega (arith, stored-count, had-long z bytes held) in
-      each-eq (count - held) (λ k. packed z.mode z.depth 8 8 (tile_at z pixels (get_or from (held + k) 0))) (λ k. packed z.mode z.depth 8 8 (get_or stored (length had + k) []))
+      each-eq (count - held) (λ k. packed z.mode z.depth 8 8 (tile_at z pixels (get_or t.from (held + k) 0))) (λ k. packed z.mode z.depth 8 8 (get_or stored (length had + k) []))
       (λ k lt. ap (packed z.mode z.depth 8 8) (tile-there k lt))
       ∙ ap (λ (n : ℕ). each n (λ k. packed z.mode z.depth 8 8 (get_or stored (length had + k) []))) more
 
@@ -180,16 +211,11 @@ module _ {z : Settings} {pixels bytes : List ℕ} {held room : ℕ} {from codes 
 
   -- they can be put, in the buffers that there are
   pub puts-picture : {first total : ℕ} {map : List ℕ} → CanGoOn z held first (length pixels) (length bytes) (length map) → room ≡ picture_room z (length bytes) → total ≤ 4294967295
-      → PutsPicture z pixels from codes held count total first bytes map
+      → PutsPicture z pixels t codes total first bytes map
   puts-picture c is small =
-      let all : count ≡ held + (count - held) = omega (arith, g.above) in
       let within : count ≤ picture_room z (length bytes) = omega (arith, g.within) in
       record {
-        above = g.above;
-        as_tiles = record {
-          stored = subst (λ (n : ℕ). Stored z pixels bytes held from n) all g.stored;
-          space = subst (λ (n : ℕ). n * (z.depth * 8) ≤ length bytes) all (room-bytes z (length bytes) (shallow c) within);
-        };
+        as_tiles = record { stored = g.stored; above = g.above; space = room-bytes z (length bytes) (shallow c) within };
         as_map = record {
           few = c.few;
           mode = c.picture.mode;
@@ -200,8 +226,8 @@ module _ {z : Settings} {pixels bytes : List ℕ} {held room : ℕ} {from codes 
       }
 
   -- and then the promise is met
-  pub put-done : {discarded total first : ℕ} {map tiles_after map_after : List ℕ} {r : Picture} {k : ℕ} → total ≡ discarded + (held + places z - count)
-      → PutAs z pixels from codes held count total first bytes map r tiles_after map_after → k ≡ 0 → GoesOn k z pixels had discarded first bytes map r tiles_after map_after
+  pub put-done : {discarded total first : ℕ} {map tiles_after map_after : List ℕ} {r : Counts} {k : ℕ} → total ≡ discarded + (held + places z - count)
+      → PutAs z pixels t codes total first bytes map r tiles_after map_after → k ≡ 0 → GoesOn k z pixels had discarded first bytes map (picture_by (Ok r)) tiles_after map_after
   put-done {discarded} {total} {first} {map} {k = k} sum p e =
       let size = z.depth * 8 in
       let line = (row z.mode).entry in
@@ -209,7 +235,7 @@ module _ {z : Settings} {pixels bytes : List ℕ} {held room : ℕ} {from codes 
       let answer : pictured 0 count total (count * size) ((first + places z) * line) ≡ pictured 0 (length stored) due (length stored * size) ((first + places z) * line) =
       pictured-eq (sym stored-count) (omega (arith, sum, sum-after)) in
       record {
-        answer = p.answer ∙ answer ∙ ap (λ (i : ℕ). pictured i (length stored) due (length stored * size) ((first + places z) * line)) (sym e);
+        answer = ap (λ (k : Counts). picture_by (Ok k)) p.answer ∙ answer ∙ ap (λ (i : ℕ). pictured i (length stored) due (length stored * size) ((first + places z) * line)) (sym e);
         lent =
             p.lent ∙ ap (sets bytes (held * size)) tiles-written
             ∙ ap (λ (n : ℕ). sets bytes (n * size) (tile_bytes_after z pixels had)) (sym (had-long z bytes held))
@@ -237,3 +263,8 @@ module _ {k : ℕ} {z : Settings} {pixels : List ℕ} {had : List (List ℕ)} {d
         lent = sym (when-refused k (sets tiles (length had * (z.depth * 8)) (tile_bytes_after z pixels had)) tiles due);
         also_lent = sym (when-refused k (sets map (first * (row z.mode).entry) (map_bytes_after z pixels had)) map due);
       }
+
+-- and so where the answer is the refusal that is due
+pub refused-by : {k : ℕ} {z : Settings} {pixels : List ℕ} {had : List (List ℕ)} {discarded first : ℕ} {tiles map : List ℕ} (e : Refusal)
+    → refusal_number e ≡ k → GoesOn k z pixels had discarded first tiles map (picture_by (Err e)) tiles map
+refused-by e is = refused-on (refusal_number e) is (refusal-not-done e) (picture-refused e)

@@ -8,12 +8,13 @@ use native.Mathlib.Omega.{arith}
 use lib.Dec.{ltb, eqb}
 use lib.ListN.{length}
 use borrow.Author.Tests.{ltb-true, eqb-false}
+use Rattle.std.specs.Prelude.{Option, Some, None}
 use Rattle.words.specs.Answers.{◌when◌}
 use Rattle.words.proofs.Order.{Never, never-when, only-given}
 use Rattle.mode.specs.Table.{row, has_depth, pce-sprite}
 use Rattle.mapentry.specs.Entry.{misfit_of, misfit_says}
 use Rattle.mapentry.specs.declared.Misfit.{Misfit}
-use Rattle.mapentry.specs.declared.Misfit.TheVariants.{Tile, Palette, Flip, Priority, Nothing}
+use Rattle.mapentry.specs.declared.Misfit.TheVariants.{Tile, Palette, Flip, Priority}
 use Rattle.picture.specs.Entries.{entry_as}
 use Rattle.picture.specs.Converting.{places, need_of, picture_room, is_span, asked_checks, convert_says}
 use Rattle.picture.specs.Inner.{asked_says}
@@ -24,12 +25,12 @@ infixr 20 ◌also◌
 pub ◌also◌ : {A B : Type 0} → A → B → A × B
 a also b = (a, b)
 
-misfit-not : (f : Misfit) → misfit_says f ≡ 12 → ⊥
-misfit-not Tile = eqb-false (misfit_says Tile) 12 refl
-misfit-not Palette = eqb-false (misfit_says Palette) 12 refl
-misfit-not Flip = eqb-false (misfit_says Flip) 12 refl
-misfit-not Priority = eqb-false (misfit_says Priority) 12 refl
-misfit-not Nothing = eqb-false (misfit_says Nothing) 12 refl
+misfit-not : (f : Option Misfit) → misfit_says f ≡ 12 → ⊥
+misfit-not (Some Tile) = eqb-false (misfit_says (Some Tile)) 12 refl
+misfit-not (Some Palette) = eqb-false (misfit_says (Some Palette)) 12 refl
+misfit-not (Some Flip) = eqb-false (misfit_says (Some Flip)) 12 refl
+misfit-not (Some Priority) = eqb-false (misfit_says (Some Priority)) 12 refl
+misfit-not None = eqb-false (misfit_says None) 12 refl
 
 pub above : (room need : ℕ) → 12 when ltb room need ≡ 12 → room < need
 above room need e = case (ltb room need) refl e

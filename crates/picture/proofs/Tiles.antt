@@ -15,20 +15,23 @@ use Rattle.words.proofs.Items.{item-inside}
 use Rattle.tile.specs.Tile.{unpacked}
 use Rattle.flip.specs.Matching.{match_flip}
 use Rattle.flip.specs.declared.Flip.{Flip}
-use Rattle.flip.specs.declared.Match.{Match}
-use Rattle.flip.specs.declared.Match.TheVariants.{Under, Never}
+use Rattle.std.specs.Prelude.{Option, Some, None}
 use Rattle.flip.proofs.Equivalence.{not-both}
 use Rattle.tileset.specs.Finding.{tiles_from, tiles_in, found_or, look_up, is_found}
 use Rattle.tileset.specs.declared.Logical.{Logical}
 use Rattle.tileset.specs.declared.Found.{Found}
 use Rattle.tileset.specs.declared.Found.TheVariants.{At, Nothing}
 use Rattle.tileset.proofs.Stores.{tiles_more}
-use Rattle.index.specs.Inner.{key, Indexed, Enters}
+use Rattle.index.specs.Keys.{key}
+use Rattle.index.specs.Inner.{IsEmpty, Indexed, Enters}
+use Rattle.index.specs.declared.Index.{Index}
 use Rattle.index.proofs.Entering.{indexed-none, entered}
 use Rattle.picture.specs.Converting.{places}
 use Rattle.picture.specs.Continuing.{unpacked_tiles}
-use Rattle.picture.specs.Inner.{tile_at, stored_tile, stored_tiles, HasWritten, Stored, LooksAt, Finds}
+use Rattle.picture.specs.Inner.{tile_at, stored_tile, stored_tiles, HasWritten, Stored, tiles_of, first_tiles, HasStored, LooksAt, Finds, IndexesWritten, Indexes}
 use Rattle.picture.specs.declared.Settings.{Settings}
+use Rattle.picture.specs.declared.stored.Source.{Source}
+use Rattle.picture.specs.declared.stored.Store.{Store}
 
 module _ (z : Settings) (pixels bytes : List ℕ) (held : ℕ) where
   -- ---- the tiles
@@ -78,9 +81,9 @@ module _ (z : Settings) (pixels bytes : List ℕ) (held : ℕ) where
       ∙ ap (map f) (sym (tiles_more size bytes 0 n))
 
   -- with their index
-  pub none-indexed : (from keys heads next : List ℕ) → ((b : ℕ) → b < 4096 → get_or heads b 0 ≡ 0) → Indexed z.flip (tiles from 0) keys heads next
+  pub none-indexed : (from : List ℕ) (x : Index) → IsEmpty x → Indexed z.flip (tiles from 0) x
   unfolding stored_tiles
-  none-indexed from keys heads next empty = indexed-none z.flip keys heads next empty
+  none-indexed from x empty = indexed-none z.flip x empty
 
   pub one_written : (from : List ℕ) (k : ℕ) {t : List ℕ} → k < held → t ≡ written k → tiles from k ++ t ∷ [] ≡ tiles from (k + 1)
   unfolding stored_tiles
@@ -130,31 +133,62 @@ module _ {z : Settings} {pixels bytes : List ℕ} {held : ℕ} {from : List ℕ}
 
 -- ---- a search
 
-pub finds-of : {z : Settings} {pixels bytes : List ℕ} {held : ℕ} {from keys heads next : List ℕ} {count : ℕ} {tile : List ℕ} {q : ℕ}
-    → Stored z pixels bytes held from count → Indexed z.flip (stored_tiles z pixels bytes held from count) keys heads next → q ≡ key z.flip tile
-    → Finds z pixels bytes held from keys heads next count tile q
-finds-of {z} {pixels} {bytes} {held} {from} {count = count} s index its =
-    record { stored = s; search = record { few = omega (arith, stored-long z pixels bytes held from count, s.few); index = index; its = its } }
+module _ {s : Source} {t : Store} {tile : List ℕ} {q : ℕ} where
+  pub finds-of : HasStored s t t.count → Indexed s.settings.flip (tiles_of s t) t.index → q ≡ key s.settings.flip tile → Finds s t tile q
+  finds-of stored index its =
+      record {
+        stored = stored;
+        search = record { few = omega (arith, stored-long s.settings s.pixels.now s.tiles.now t.held t.from t.count, stored.few); index = index; its = its };
+      }
 
-pub looks-at : {z : Settings} {pixels bytes : List ℕ} {held : ℕ} {from keys heads next : List ℕ} {count : ℕ} {tile : List ℕ} {q : ℕ}
-    → Finds z pixels bytes held from keys heads next count tile q → (k : ℕ) → k < count → LooksAt z pixels bytes held from keys k tile q
-looks-at {z} {pixels} {bytes} {held} {from} {count = count} f k lt =
-    record {
-      stored = stored-less f.stored (suc k) lt;
-      keyed =
-          f.search.index.keyed k (omega (arith, stored-long z pixels bytes held from count)) ∙ ap (key z.flip) (stored_at z pixels bytes held from count k lt);
-      its = f.search.its;
-    }
+  module _ (f : Finds s t tile q) where
+    many : length (tiles_of s t) ≡ t.count
+    many = stored-long s.settings s.pixels.now s.tiles.now t.held t.from t.count
 
--- a tile more in the index
-pub more-indexed : {z : Settings} {pixels bytes : List ℕ} {held : ℕ} {from keys heads next : List ℕ} {count : ℕ} {tile : List ℕ} {q : ℕ} {found : Found}
-    {keys-then heads-then next-then : List ℕ} {ts : List (List ℕ)} → Finds z pixels bytes held from keys heads next count tile q
-    → count < 4096 → found ≡ look_up z.flip 8 8 (stored_tiles z pixels bytes held from count) tile → length keys ≡ 4096 → length heads ≡ 4096 → length next ≡ 4096
-    → Enters keys heads next count q found keys-then heads-then next-then → stored_tiles z pixels bytes held from count ++ tile ∷ [] ≡ ts
-    → Indexed z.flip ts keys-then heads-then next-then
-more-indexed {z} {pixels} {bytes} {held} {from} {count = count} {keys-then = ks} {heads-then = hs} {next-then = ns} f few looked kl hl nl e same =
-    let long = stored-long z pixels bytes held from count in
-    subst (λ (ts : List (List ℕ)). Indexed z.flip ts ks hs ns) same (entered f.search (omega (arith, long)) looked kl hl nl long e)
+    pub looks-at : (k : ℕ) → k < t.count → LooksAt s t k tile q
+    looks-at k lt =
+        record {
+          stored = stored-less f.stored (suc k) lt;
+          keyed =
+              f.search.index.keyed k (omega (arith, many))
+              ∙ ap (key s.settings.flip) (stored_at s.settings s.pixels.now s.tiles.now t.held t.from t.count k lt);
+          its = f.search.its;
+        }
+
+    -- a tile more in the index
+    pub more-indexed : {found : Found} {after : Index} {ts : List (List ℕ)} → t.count < 4096 → found ≡ look_up s.settings.flip 8 8 (tiles_of s t) tile
+        → Enters t.index t.count q found after → tiles_of s t ++ tile ∷ [] ≡ ts → Indexed s.settings.flip ts after
+    more-indexed {after = after} few looked e same =
+        subst (λ (ts : List (List ℕ)). Indexed s.settings.flip ts after) same (entered f.search (omega (arith, many)) looked many e)
+
+-- ---- the index of the tiles that are written
+
+module _ {s : Source} {t : Store} (w : IndexesWritten s t) where
+  pub index_none : Indexes s t 0 t
+  index_none = record { count = w.none; held = refl; from = refl; index = none-indexed s.settings s.pixels.now s.tiles.now t.held t.from t.index w.empty }
+
+  module _ {u : Store} {k : ℕ} (i : Indexes s t k u) (lt : k < t.held) where
+    same-tiles : tiles_of s u ≡ first_tiles s t k
+    same-tiles = rw (i.held, i.from, i.count)
+
+    pub index-finds : {tile : List ℕ} {q : ℕ} → q ≡ key s.settings.flip tile → Finds s u tile q
+    index-finds its =
+        let stored : HasStored s u u.count = rw (i.held, i.from, i.count) (stored-less w.stored k (omega arith)) in
+        finds-of stored (subst (λ (ts : List (List ℕ)). Indexed s.settings.flip ts u.index) (sym same-tiles) i.index) its
+
+    pub index-more : {tile : List ℕ} {q : ℕ} {found : Found} {after : Index} → q ≡ key s.settings.flip tile
+        → tile ≡ unpacked s.settings.mode s.settings.depth 8 8 (take (s.settings.depth * 8) (drop (k * (s.settings.depth * 8)) s.tiles.now))
+        → found ≡ look_up s.settings.flip 8 8 (tiles_of s u) tile → Enters u.index k q found after
+        → Indexes s t (k + 1) (record { held = u.held; count = k + 1; from = u.from; index = after })
+    index-more {tile} {q} {found} {after} its read looked e =
+        let enters : Enters u.index u.count q found after = subst (λ (n : ℕ). Enters u.index n q found after) (sym i.count) e in
+        record {
+          count = refl;
+          held = i.held;
+          from = i.from;
+          index = more-indexed (index-finds its) (omega (arith, i.count, w.stored.few)) looked enters
+              (ap (λ (ts : List (List ℕ)). ts ++ tile ∷ []) same-tiles ∙ one_written s.settings s.pixels.now s.tiles.now t.held t.from k lt read);
+        }
 
 -- ---- a search among one tile
 
@@ -163,20 +197,20 @@ module _ (on : Bool) (one t : List ℕ) (whole : length one ≡ 64) where
   unfolding look_up tiles_in
   found-one = ap (λ (a : List ℕ). found_or (match_flip on 8 8 a t) 0 Nothing) (take_all 64 one (omega arith))
 
-  pub matched-never : look_up on 8 8 (tiles_in 64 one 1) t ≡ Nothing → Never ≡ match_flip on 8 8 one t
+  pub matched-never : look_up on 8 8 (tiles_in 64 one 1) t ≡ Nothing → None ≡ match_flip on 8 8 one t
   matched-never e = case (match_flip on 8 8 one t) (sym found-one ∙ e)
     where
-      case : (m : Match) → found_or m 0 Nothing ≡ Nothing → Never ≡ m
-      case (Under f) e = not-both (ap is_found (sym e))
-      case Never e = refl
+      case : (m : Option Flip) → found_or m 0 Nothing ≡ Nothing → None ≡ m
+      case (Some f) e = not-both (ap is_found (sym e))
+      case None e = refl
 
-  pub matched-under : {k : Logical} {f : Flip} → look_up on 8 8 (tiles_in 64 one 1) t ≡ At k f → Under f ≡ match_flip on 8 8 one t
+  pub matched-under : {k : Logical} {f : Flip} → look_up on 8 8 (tiles_in 64 one 1) t ≡ At k f → Some f ≡ match_flip on 8 8 one t
   matched-under {k} {f} e = case (match_flip on 8 8 one t) (sym found-one ∙ e)
     where
       flip_of : Found → Flip
       flip_of (At k g) = g
       flip_of Nothing = f
 
-      case : (m : Match) → found_or m 0 Nothing ≡ At k f → Under f ≡ m
-      case (Under g) e = ap Under (sym (ap flip_of e))
-      case Never e = not-both (sym (ap is_found (sym e)))
+      case : (m : Option Flip) → found_or m 0 Nothing ≡ At k f → Some f ≡ m
+      case (Some g) e = ap Some (sym (ap flip_of e))
+      case None e = not-both (sym (ap is_found (sym e)))

@@ -1,9 +1,11 @@
 -- What the functions behind a conversion and a redrawing ask, and what they promise.
 -- Assumes nothing.
-use Rattle.std.specs.Prelude.{◌≡◌, false, cond, ◌&&◌, List, [], ◌∷◌, ◌++◌, ℕ, zero, suc, ◌+◌, ◌-◌, ◌*◌, ◌/◌, ◌%◌, ◌^◌, ◌<◌, ◌≤◌, T, ltb, eqb, length, get_or, take, drop}
+use Rattle.std.specs.Prelude.{◌≡◌, false, cond, ◌&&◌, List, [], ◌∷◌, ◌++◌, ℕ, zero, suc, ◌+◌, ◌-◌, ◌*◌, ◌/◌, ◌%◌, ◌^◌, ◌<◌, ◌≤◌, T, ltb, eqb, length, get_or, set, take, drop, Result, IfOk, OnOk, ⊤}
 use Rattle.std.proofs.lemmas.List.Edits.{sets}
 use Rattle.words.specs.Answers.{◌when◌, first_applying}
+use Rattle.words.specs.Refusals.{answered}
 use Rattle.words.specs.Bytes.{bit}
+use Rattle.words.specs.declared.refusal.Refusal.{Refusal}
 use Rattle.words.specs.Loops.{each}
 use Rattle.mode.specs.Table.{row, has_depth, pce-sprite}
 use Rattle.mapentry.specs.Entry.{entry_bytes, IsEntry}
@@ -14,18 +16,17 @@ use Rattle.tileset.specs.Keeping.{keep}
 use Rattle.tileset.specs.Numbers.{first_cell}
 use Rattle.tileset.specs.declared.Found.{Found}
 use Rattle.tileset.specs.declared.Found.TheVariants.{At, Nothing}
-use Rattle.index.specs.Inner.{key, Indexed, Searches}
+use Rattle.index.specs.Keys.{key}
+use Rattle.index.specs.Inner.{key_at, IsEmpty, Indexed, Searches, Enters}
 use Rattle.picture.specs.Cells.{cut_tile}
 use Rattle.picture.specs.Entries.{entry_as, tile_named}
-use Rattle.picture.specs.Converting.{places, picture_room, pictured, asked_checks}
+use Rattle.picture.specs.Converting.{places, picture_room, asked_checks}
 use Rattle.picture.specs.Continuing.{unpacked_tiles, stored_after, found_after, goes_on_checks}
 use Rattle.picture.specs.Redrawing.{entry_at, drawn_tile}
 use Rattle.picture.specs.declared.Settings.{Settings}
-use Rattle.picture.specs.declared.Picture.{Picture}
-use Rattle.picture.specs.declared.Taken.{Taken}
-use Rattle.picture.specs.declared.Taken.TheVariants.{Kept, NoRoom}
-use Rattle.picture.specs.declared.Gathered.{Gathered}
-use Rattle.picture.specs.declared.Gathered.TheVariants.{Count, NoRoom as Without}
+use Rattle.picture.specs.declared.Counts.{Counts}
+use Rattle.picture.specs.declared.stored.Source.{Source}
+use Rattle.picture.specs.declared.stored.Store.{Store}
 
 -- The checks of a conversion that count no tiles.
 unfoldable pub asked_says : Settings → ℕ → ℕ → ℕ
@@ -100,101 +101,123 @@ pub record Stored (z : Settings) (pixels bytes : List ℕ) (held : ℕ) (from : 
   pub long : length from ≡ 4096
   pub taken : (k : ℕ) → held ≤ k → k < count → get_or from k 0 < places z
 
--- Looking at stored tile k, and a search among so many, where q is the key of the tile; and those written, before any has its place in the index.
-pub record LooksAt (z : Settings) (pixels bytes : List ℕ) (held : ℕ) (from keys : List ℕ) (k : ℕ) (tile : List ℕ) (q : ℕ) : Type 0 where
-  pub stored : Stored z pixels bytes held from (suc k)
-  pub keyed : get_or keys k 0 ≡ key z.flip (stored_tile z pixels bytes held from k)
-  pub its : q ≡ key z.flip tile
+-- The tiles of a store, the first n of them, and tile k.
+abbrev pub tile_of : Source → Store → ℕ → List ℕ
+tile_of s t k = stored_tile s.settings s.pixels.now s.tiles.now t.held t.from k
 
-pub record Finds (z : Settings) (pixels bytes : List ℕ) (held : ℕ) (from keys heads next : List ℕ) (count : ℕ) (tile : List ℕ) (q : ℕ) : Type 0 where
-  pub stored : Stored z pixels bytes held from count
-  pub search : Searches z.flip (stored_tiles z pixels bytes held from count) keys heads next tile q
+abbrev pub first_tiles : Source → Store → ℕ → List (List ℕ)
+first_tiles s t n = stored_tiles s.settings s.pixels.now s.tiles.now t.held t.from n
 
-pub record IndexesWritten (z : Settings) (pixels bytes : List ℕ) (held : ℕ) (from heads : List ℕ) : Type 0 where
-  pub stored : Stored z pixels bytes held from held
-  pub empty : (b : ℕ) → b < 4096 → get_or heads b 0 ≡ 0
+abbrev pub tiles_of : Source → Store → List (List ℕ)
+tiles_of s t = first_tiles s t t.count
+
+abbrev pub HasStored : Source → Store → ℕ → Type 0
+HasStored s t n = Stored s.settings s.pixels.now s.tiles.now t.held t.from n
+
+-- Looking at stored tile k, and a search among all, where q is the key of the tile.
+pub record LooksAt (s : Source) (t : Store) (k : ℕ) (tile : List ℕ) (q : ℕ) : Type 0 where
+  pub stored : HasStored s t (suc k)
+  pub keyed : key_at t.index k ≡ key s.settings.flip (tile_of s t k)
+  pub its : q ≡ key s.settings.flip tile
+
+pub record Finds (s : Source) (t : Store) (tile : List ℕ) (q : ℕ) : Type 0 where
+  pub stored : HasStored s t t.count
+  pub search : Searches s.settings.flip (tiles_of s t) t.index tile q
+
+-- The tiles that are written, before any has its place in the index; and with it.
+pub record IndexesWritten (s : Source) (t : Store) : Type 0 where
+  pub stored : HasStored s t t.held
+  pub none : t.count ≡ 0
+  pub empty : IsEmpty t.index
+
+pub record Indexes (s : Source) (t : Store) (n : ℕ) (after : Store) : Type 0 where
+  pub count : after.count ≡ n
+  pub held : after.held ≡ t.held
+  pub from : after.from ≡ t.from
+  pub index : Indexed s.settings.flip (first_tiles s t n) after.index
 
 -- ---- one tile more
 
--- Stored tiles with their index, and tile i of the picture; its key, and what was found of it.
-pub record Keeps (z : Settings) (pixels bytes : List ℕ) (held : ℕ) (from keys heads next : List ℕ) (count room i : ℕ) : Type 0 where
-  pub stored : Stored z pixels bytes held from count
-  pub above : held ≤ count
-  pub within : count ≤ room
+-- Tile i of the picture at the end, where there is room: q is its key, and found what a look-up found of it. "No room for the tiles" is 12.
+pub record Stores (t : Store) (room i : ℕ) : Type 0 where
+  pub within : t.count ≤ room
   pub most : room ≤ 4096
-  pub index : Indexed z.flip (stored_tiles z pixels bytes held from count) keys heads next
-  pub inside : i < places z
+  pub long : length t.from ≡ 4096
+  pub inside : i < 4096
 
-pub record Stores (z : Settings) (pixels bytes : List ℕ) (held : ℕ) (from keys heads next : List ℕ) (count room i q : ℕ) (found : Found) : Type 0 where
-  pub keeps : Keeps z pixels bytes held from keys heads next count room i
-  pub its : q ≡ key z.flip (tile_at z pixels i)
-  pub looked : found ≡ look_up z.flip 8 8 (stored_tiles z pixels bytes held from count) (tile_at z pixels i)
+pub record StoredAt (t : Store) (i q : ℕ) (found : Found) (after : Store) : Type 0 where
+  pub held : after.held ≡ t.held
+  pub count : after.count ≡ t.count + 1
+  pub from : after.from ≡ set t.from t.count i
+  pub entered : Enters t.index t.count q found after.index
 
--- "No room for the tiles" (12): the number of each case of what becomes of a tile, and its values, where these tiles are due and this code.
-abbrev pub taken_says : Taken → ℕ
-taken_says (Kept count place) = 0
-taken_says NoRoom = 12
+pub record StoredAs (t : Store) (room i q : ℕ) (found : Found) (after : Store) (r : Result ⊤ Refusal) : Type 0 where
+  pub says : answered r ≡ 12 when ltb room (t.count + 1)
+  pub values : OnOk r (StoredAt t i q found after)
 
--- These are the stored tiles, with their index.
-pub record Entered (z : Settings) (pixels bytes : List ℕ) (held : ℕ) (tiles : List (List ℕ)) (from keys heads next : List ℕ) (count : ℕ) : Type 0 where
-  pub stored : Stored z pixels bytes held from count
-  pub above : held ≤ count
-  pub is : stored_tiles z pixels bytes held from count ≡ tiles
-  pub index : Indexed z.flip tiles keys heads next
+-- Stored tiles with their index, and tile i of the picture.
+pub record Keeps (s : Source) (t : Store) (room i : ℕ) : Type 0 where
+  pub stored : HasStored s t t.count
+  pub above : t.held ≤ t.count
+  pub within : t.count ≤ room
+  pub most : room ≤ 4096
+  pub index : Indexed s.settings.flip (tiles_of s t) t.index
+  pub inside : i < places s.settings
 
-pub record KeptWith (z : Settings) (pixels bytes : List ℕ) (held : ℕ) (tiles : List (List ℕ)) (room code : ℕ) (from keys heads next : List ℕ) (count place : ℕ) : Type 0 where
-  pub within : count ≤ room
-  pub entered : Entered z pixels bytes held tiles from keys heads next count
+-- These are the stored tiles, with their index, where so many are written.
+pub record Entered (s : Source) (held : ℕ) (tiles : List (List ℕ)) (t : Store) : Type 0 where
+  pub still : t.held ≡ held
+  pub stored : HasStored s t t.count
+  pub above : t.held ≤ t.count
+  pub is : tiles_of s t ≡ tiles
+  pub index : Indexed s.settings.flip tiles t.index
+
+-- What becomes of a tile, where these tiles are due and this code.
+pub record KeptWith (s : Source) (held : ℕ) (tiles : List (List ℕ)) (room code : ℕ) (after : Store) (place : ℕ) : Type 0 where
+  pub within : after.count ≤ room
+  pub entered : Entered s held tiles after
   pub coded : place ≡ code
 
-abbrev pub TakenValues : Settings → List ℕ → List ℕ → ℕ → List (List ℕ) → ℕ → ℕ → List ℕ → List ℕ → List ℕ → List ℕ → Taken → Type 0
-TakenValues z pixels bytes held tiles room code from keys heads next (Kept count place) = KeptWith z pixels bytes held tiles room code from keys heads next count place
-TakenValues z pixels bytes held tiles room code from keys heads next NoRoom = Unit {0}
+pub record TakenAs (s : Source) (held : ℕ) (tiles : List (List ℕ)) (room code : ℕ) (after : Store) (r : Result ℕ Refusal) : Type 0 where
+  pub says : answered r ≡ 12 when ltb room (length tiles)
+  pub values : IfOk r (λ place. KeptWith s held tiles room code after place)
 
-pub record TakenAs (z : Settings) (pixels bytes : List ℕ) (held : ℕ) (tiles : List (List ℕ)) (room code : ℕ) (from keys heads next : List ℕ) (r : Taken) : Type 0 where
-  pub says : taken_says r ≡ 12 when ltb room (length tiles)
-  pub values : TakenValues z pixels bytes held tiles room code from keys heads next r
+-- Tile i more after those of a store: what is kept then, and how the tile is found in it.
+abbrev pub kept_after : Source → Store → ℕ → List (List ℕ)
+kept_after s t i = keep s.settings.discard s.settings.flip 8 8 (tiles_of s t) (tile_at s.settings s.pixels.now i)
 
--- One tile more after some: what is kept then, and how the tile is found in it.
-abbrev pub KeptAs : Settings → List ℕ → List ℕ → ℕ → List (List ℕ) → List ℕ → ℕ → List ℕ → List ℕ → List ℕ → List ℕ → Taken → Type 0
-KeptAs z pixels bytes held tiles t room from keys heads next r =
-    TakenAs z pixels bytes held (keep z.discard z.flip 8 8 tiles t) room (code_of (look_up z.flip 8 8 (keep z.discard z.flip 8 8 tiles t) t)) from keys heads next r
+abbrev pub KeptAs : Source → Store → ℕ → ℕ → Store → Result ℕ Refusal → Type 0
+KeptAs s t room i after r = TakenAs s t.held (kept_after s t i) room (code_of (look_up s.settings.flip 8 8 (kept_after s t i) (tile_at s.settings s.pixels.now i))) after r
 
 -- ---- every tile of a picture, after those that are written
 
-pub record Gathers (z : Settings) (pixels bytes : List ℕ) (held room : ℕ) (from keys heads next codes : List ℕ) : Type 0 where
-  pub stored : Stored z pixels bytes held from held
-  pub within : held ≤ room
+pub record Gathers (s : Source) (t : Store) (room : ℕ) (codes : List ℕ) : Type 0 where
+  pub stored : HasStored s t t.count
+  pub written : t.count ≡ t.held
+  pub within : t.held ≤ room
   pub most : room ≤ 4096
-  pub index : Indexed z.flip (stored_tiles z pixels bytes held from held) keys heads next
+  pub index : Indexed s.settings.flip (tiles_of s t) t.index
   pub long : length codes ≡ 4096
 
--- The number of each case, and its values.
-abbrev pub gathered_says : Gathered → ℕ
-gathered_says (Count count) = 0
-gathered_says Without = 12
+pub record GatheredWith (s : Source) (room : ℕ) (t : Store) (codes : List ℕ) : Type 0 where
+  pub within : t.count ≤ room
+  pub above : t.held ≤ t.count
+  pub stored : HasStored s t t.count
+  pub is : tiles_of s t ≡ stored_after s.settings s.pixels.now (unpacked_tiles s.settings s.tiles.now t.held)
+  pub coded : (i : ℕ) → i < places s.settings → get_or codes i 0 ≡ code_of (found_after s.settings s.pixels.now (unpacked_tiles s.settings s.tiles.now t.held) i)
 
-pub record GatheredWith (z : Settings) (pixels bytes : List ℕ) (held room : ℕ) (from codes : List ℕ) (count : ℕ) : Type 0 where
-  pub within : count ≤ room
-  pub above : held ≤ count
-  pub stored : Stored z pixels bytes held from count
-  pub is : stored_tiles z pixels bytes held from count ≡ stored_after z pixels (unpacked_tiles z bytes held)
-  pub coded : (i : ℕ) → i < places z → get_or codes i 0 ≡ code_of (found_after z pixels (unpacked_tiles z bytes held) i)
-
-abbrev pub GatheredValues : Settings → List ℕ → List ℕ → ℕ → ℕ → List ℕ → List ℕ → Gathered → Type 0
-GatheredValues z pixels bytes held room from codes (Count count) = GatheredWith z pixels bytes held room from codes count
-GatheredValues z pixels bytes held room from codes Without = Unit {0}
-
-pub record GatheredAs (z : Settings) (pixels bytes : List ℕ) (held room : ℕ) (from codes : List ℕ) (r : Gathered) : Type 0 where
-  pub says : gathered_says r ≡ 12 when ltb room (length (stored_after z pixels (unpacked_tiles z bytes held)))
-  pub values : GatheredValues z pixels bytes held room from codes r
+-- "No room for the tiles" (12), or all of them, and the code of each tile's place among them.
+pub record GatheredAs (s : Source) (t : Store) (room : ℕ) (after : Store) (codes : List ℕ) (r : Result ⊤ Refusal) : Type 0 where
+  pub says : answered r ≡ 12 when ltb room (length (stored_after s.settings s.pixels.now (unpacked_tiles s.settings s.tiles.now t.held)))
+  pub values : OnOk r ((after.held ≡ t.held) × GatheredWith s room after codes)
 
 -- ---- writing
 
--- Some stored tiles more, from tile held on, and some entries, from entry first on, that can be written; and their bytes.
-pub record PutsTiles (z : Settings) (pixels from : List ℕ) (held more : ℕ) (tiles : List ℕ) : Type 0 where
-  pub stored : Stored z pixels tiles held from (held + more)
-  pub space : (held + more) * (z.depth * 8) ≤ length tiles
+-- The stored tiles that are not written, and some entries, from entry first on, that can be written; and their bytes.
+pub record PutsTiles (z : Settings) (pixels : List ℕ) (t : Store) (tiles : List ℕ) : Type 0 where
+  pub stored : Stored z pixels tiles t.held t.from t.count
+  pub above : t.held ≤ t.count
+  pub space : t.count * (z.depth * 8) ≤ length tiles
 
 pub record PutsMap (m palette first count : ℕ) (codes map : List ℕ) : Type 0 where
   pub few : first + count ≤ 4096
@@ -202,22 +225,21 @@ pub record PutsMap (m palette first count : ℕ) (codes map : List ℕ) : Type 0
   pub entries : (i : ℕ) → i < count → IsEntry m (entry_coded m palette (get_or codes i 0))
   pub space : (first + count) * (row m).entry ≤ length map
 
-abbrev pub put_tiles : Settings → List ℕ → List ℕ → ℕ → ℕ → List ℕ
-put_tiles z pixels from held more = each more (λ k. packed z.mode z.depth 8 8 (tile_at z pixels (get_or from (held + k) 0)))
+abbrev pub put_tiles : Settings → List ℕ → Store → List ℕ
+put_tiles z pixels t = each (t.count - t.held) (λ k. packed z.mode z.depth 8 8 (tile_at z pixels (get_or t.from (t.held + k) 0)))
 
 abbrev pub put_entries : ℕ → ℕ → List ℕ → ℕ → List ℕ
 put_entries m palette codes count = each count (λ i. entry_bytes m (entry_coded m palette (get_or codes i 0)))
 
--- Both, where so many tiles are stored and so many are discarded; and what is then written and answered.
-pub record PutsPicture (z : Settings) (pixels from codes : List ℕ) (held count discarded first : ℕ) (tiles map : List ℕ) : Type 0 where
-  pub above : held ≤ count
-  pub as_tiles : PutsTiles z pixels from held (count - held) tiles
+-- Both, where so many are discarded; and what is then written and answered.
+pub record PutsPicture (z : Settings) (pixels : List ℕ) (t : Store) (codes : List ℕ) (discarded first : ℕ) (tiles map : List ℕ) : Type 0 where
+  pub as_tiles : PutsTiles z pixels t tiles
   pub as_map : PutsMap z.mode z.palette first (places z) codes map
   pub small : discarded ≤ 4294967295
 
-pub record PutAs (z : Settings) (pixels from codes : List ℕ) (held count discarded first : ℕ) (tiles map : List ℕ) (r : Picture) (tiles_after map_after : List ℕ) : Type 0 where
-  pub answer : r ≡ pictured 0 count discarded (count * (z.depth * 8)) ((first + places z) * (row z.mode).entry)
-  pub lent : tiles_after ≡ sets tiles (held * (z.depth * 8)) (put_tiles z pixels from held (count - held))
+pub record PutAs (z : Settings) (pixels : List ℕ) (t : Store) (codes : List ℕ) (discarded first : ℕ) (tiles map : List ℕ) (r : Counts) (tiles_after map_after : List ℕ) : Type 0 where
+  pub answer : r ≡ record { tiles = t.count; discarded = discarded; tile_bytes = t.count * (z.depth * 8); map_bytes = (first + places z) * (row z.mode).entry }
+  pub lent : tiles_after ≡ sets tiles (t.held * (z.depth * 8)) (put_tiles z pixels t)
   pub also_lent : map_after ≡ sets map (first * (row z.mode).entry) (put_entries z.mode z.palette codes (places z))
 
 -- ---- redrawing

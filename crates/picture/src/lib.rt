@@ -6,27 +6,28 @@ pub mod stored;
 ghost use Rattle.std.specs.Prelude.{◌≡◌, false, ◌&&◌, [], ◌∷◌, ◌++◌, ◌+◌, ◌*◌, ◌%◌, ◌^◌, ◌<◌, ◌≤◌, leb, eqb, length, get_or};
 ghost use Rattle.std.proofs.lemmas.List.Edits.{sets};
 ghost use Rattle.words.specs.Answers.{overwrite, Wrote};
+ghost use Rattle.words.specs.Refusals.{answered, written_by};
 ghost use Rattle.words.specs.Loops.{each, some};
 ghost use Rattle.mode.specs.Table.{row};
 ghost use Rattle.mapentry.specs.Entry.{misfit_of, misfit_says};
 ghost use Rattle.flip.specs.Flips.{flipped};
 ghost use Rattle.picture.specs.Cells.{cut_tile};
 ghost use Rattle.picture.specs.Entries.{entry_as, tile_named};
-ghost use Rattle.picture.specs.Converting.{is_span, size_says, picture_room, convert_says, pictured, Converts};
+ghost use Rattle.picture.specs.Converting.{is_span, size_says, picture_room, convert_says, picture_by, Converts};
 ghost use Rattle.picture.specs.Continuing.{unpacked_tiles, GoesOn};
 ghost use Rattle.picture.specs.Redrawing.{entry_at, drawn_tile, drawn, redraw_says};
-ghost use Rattle.picture.specs.Inner.{asked_says, CanGoOn, HasTile, tile_at, code_of, entry_coded, stored_tiles, Keeps, Stores, TakenAs, KeptAs, Gathers, GatheredAs, PutsTiles, PutsMap, put_tiles, put_entries, PutsPicture, PutAs, HasEntries, DrawsTile, DrawsStrip, Draws, strip_of, pixel_line, PutsLines, goes_on_says};
+ghost use Rattle.picture.specs.Inner.{asked_says, CanGoOn, HasTile, code_of, entry_coded, PutsTiles, PutsMap, put_tiles, put_entries, PutsPicture, PutAs, HasEntries, DrawsTile, DrawsStrip, Draws, strip_of, pixel_line, PutsLines, goes_on_says};
 
 use flip::Flip;
-use index::place;
+use index::Index;
 use mapentry::Mapentry;
 use mode::Mode;
-use stored::{find, index_written, read_tile};
+use stored::{Source, Store, read_tile};
 use tileset::{Found, Logical, Native};
-use words::{Written, refusal};
+use words::refusal::Refusal;
 
 // What a picture is converted by. Its size is counted in tiles.
-#[derive(Clone, Copy)]
+#[derive(Clone, Copy, Debug, PartialEq, Eq)]
 pub struct Settings {
     pub mode: u32,
     pub depth: u32,
@@ -38,9 +39,18 @@ pub struct Settings {
     pub rows: u32,
 }
 
-// What a conversion answers.
+// What a conversion has done: how many tiles are stored and were discarded, and how many bytes of each buffer are written.
+#[derive(Clone, Copy, Debug, PartialEq, Eq)]
+pub struct Counts {
+    pub tiles: u32,
+    pub discarded: u32,
+    pub tile_bytes: usize,
+    pub map_bytes: usize,
+}
+
+// What a host is told of a conversion: document 01's number, and the counts.
 #[repr(C)]
-#[derive(Clone, Copy)]
+#[derive(Clone, Copy, Debug, PartialEq, Eq)]
 pub struct Picture {
     pub refusal: u32,
     pub tiles: u32,
@@ -49,41 +59,58 @@ pub struct Picture {
     pub map_bytes: usize,
 }
 
+impl From<Result<Counts, Refusal>> for Picture {
+    ghost from_gives = { λ r p. p ≡ picture_by r };
+
+    fn from(answer: Result<Counts, Refusal>) -> Picture {
+        match answer {
+            Ok(counts) => Picture {
+                refusal: 0,
+                tiles: counts.tiles,
+                discarded: counts.discarded,
+                tile_bytes: counts.tile_bytes,
+                map_bytes: counts.map_bytes,
+            },
+            Err(refusal) => Picture {
+                refusal: refusal.number(),
+                tiles: 0,
+                discarded: 0,
+                tile_bytes: 0,
+                map_bytes: 0,
+            },
+        }
+    }
+}
+
 fn is_span(n: u32) -> bool
     ensures { result ≡ is_span n }
 {
-    if n == 0 {
-        return false;
-    }
-    n <= 64
+    0 < n && n <= 64
 }
 
 // Whether a mode has maps of this size.
-pub fn size_says(mode: u32, depth: u32, columns: u32, rows: u32) -> u32
-    ensures { result ≡ size_says mode depth columns rows }
+pub fn size_says(mode: u32, depth: u32, columns: u32, rows: u32) -> Result<(), Refusal>
+    ensures { answered result ≡ size_says mode depth columns rows }
 {
-    if 15 < mode {
-        return refusal::MODE;
+    let m = Mode::try_from(mode)?;
+    if m == Mode::PCE_SPRITE {
+        return Err(Refusal::PceSprite);
     }
-    if mode == Mode::PCE_SPRITE.0 {
-        return refusal::PCE_SPRITE;
-    }
-    if !Mode(mode).has_depth(depth) {
-        return refusal::DEPTH;
+    if !m.has_depth(depth) {
+        return Err(Refusal::Depth);
     }
     if !is_span(columns) {
-        return refusal::SIZE;
+        return Err(Refusal::Size);
     }
     if !is_span(rows) {
-        return refusal::SIZE;
+        return Err(Refusal::Size);
     }
-    0
+    Ok(())
 }
 
 // Whether flips are on where there are none.
 pub fn lacks_flips(m: Mode, flip: bool) -> bool
-    requires { m.0 < 16 }
-    ensures { result ≡ (flip && eqb (row m.0).flips 0) }
+    ensures { result ≡ (flip && eqb (row m).flips 0) }
 {
     if !flip {
         return false;
@@ -91,9 +118,9 @@ pub fn lacks_flips(m: Mode, flip: bool) -> bool
     m.flip_bits() == 0
 }
 
-pub fn palette_says(m: Mode, palette: u32) -> u32
-    requires { m.0 < 16 }
-    ensures { result ≡ misfit_says (misfit_of m.0 (entry_as 0 palette false false)) }
+// Whether the mode's entries can hold the palette index.
+pub fn palette_says(m: Mode, palette: u32) -> Result<(), Refusal>
+    ensures { answered result ≡ misfit_says (misfit_of m (entry_as 0 palette false false)) }
 {
     let e = Mapentry {
         tile: 0,
@@ -102,43 +129,40 @@ pub fn palette_says(m: Mode, palette: u32) -> u32
         flip_v: false,
         priority: false,
     };
-    mapentry::misfit_says(mapentry::first_misfit(m, e))
+    match mapentry::first_misfit(m, e) {
+        Some(misfit) => Err(Refusal::from(misfit)),
+        None => Ok(()),
+    }
 }
 
 // Every check of a conversion that counts no tiles.
-fn asked_says(settings: Settings, len: usize, space: usize) -> u32
-    ensures { result ≡ asked_says settings len space }
+fn asked_says(settings: Settings, len: usize, space: usize) -> Result<(), Refusal>
+    ensures { answered result ≡ asked_says settings len space }
 {
-    let number = size_says(
+    size_says(
         settings.mode,
         settings.depth,
         settings.columns,
         settings.rows,
-    );
-    if number != 0 {
-        return number;
-    }
-    let m = Mode(settings.mode);
+    )?;
+    let m = Mode::at(settings.mode);
     if lacks_flips(m, settings.flip) {
-        return refusal::FLIPS;
+        return Err(Refusal::Flips);
     }
     let count = (settings.columns * settings.rows) as usize;
     if len != 64 * count {
-        return refusal::LENGTH;
+        return Err(Refusal::Length);
     }
-    let misfit = palette_says(m, settings.palette);
-    if misfit != 0 {
-        return misfit;
-    }
+    palette_says(m, settings.palette)?;
     if space < count * mapentry::mapentry_size(m) {
-        return refusal::OUTPUT;
+        return Err(Refusal::Output);
     }
-    0
+    Ok(())
 }
 
+// The most tiles that a mode's entries can name.
 pub fn most_tiles(m: Mode) -> usize
-    requires { m.0 < 16 }
-    ensures { result ≡ 2 ^ (row m.0).tile }
+    ensures { result ≡ 2 ^ (row m).tile }
 {
     words::up(1, m.tile_bits()) as usize
 }
@@ -148,10 +172,8 @@ pub fn picture_room(settings: Settings, len: usize) -> usize
     requires { (settings.mode < 16) × (0 < settings.depth) × (settings.depth ≤ 8) }
     ensures { result ≡ picture_room settings len }
 {
-    let most = words::least(
-        most_tiles(Mode(settings.mode)),
-        len / (settings.depth * 8) as usize,
-    );
+    let whole = len / (settings.depth * 8) as usize;
+    let most = most_tiles(Mode::at(settings.mode)).min(whole);
     tileset::room(settings.limit, most)
 }
 
@@ -160,10 +182,8 @@ fn cut_eight(depth: u32, pixels: &[u8], from: usize, out: &mut [u8], at: usize)
     requires { (depth ≤ 8) × (from + 8 ≤ length pixels.now) × (at + 8 ≤ length out.old) }
     ensures { out.new ≡ sets out.old at (each 8 (λ x. get_or pixels.now (from + x) 0 % 2 ^ depth ∷ [])) }
 {
-    let mut x = 0;
-    while x < 8 {
-        out[at + x] = words::low(words::wide(pixels[from + x]), depth) as u8;
-        x += 1;
+    for x in 0..8 {
+        out[at + x] = words::low(u32::from(pixels[from + x]), depth) as u8;
     }
 }
 
@@ -175,10 +195,8 @@ pub fn take_tile(depth: u32, pixels: &[u8], columns: usize, i: usize) -> [u8; 64
     let mut tile = [0u8; 64];
     let line = columns * 8;
     let corner = i / columns * 8 * line + i % columns * 8;
-    let mut y = 0;
-    while y < 8 {
+    for y in 0..8 {
         cut_eight(depth, pixels, corner + y * line, &mut tile, y * 8);
-        y += 1;
     }
     tile
 }
@@ -188,149 +206,29 @@ fn code(tile: Logical, f: Flip) -> u16
     requires { tile.0 ≤ 4096 }
     ensures { result ≡ code_of (Found.At tile f) }
 {
-    (tile.0 * 4 + words::flag(f.h) + 2 * words::flag(f.v)) as u16
+    (tile.0 * 4 + u32::from(f.h) + 2 * u32::from(f.v)) as u16
 }
 
-// What becomes of a tile: how many are kept then, and the code of its place; or there is no room.
-#[derive(Clone, Copy)]
-enum Taken {
-    Kept(usize, u16),
-    NoRoom,
-}
-
-// Tile i of the picture goes at the end, where there is room; its place has this code.
-fn store_tile(
-    settings: Settings,
-    pixels: &[u8],
-    tiles: &[u8],
-    held: usize,
-    from: &mut [u16; 4096],
-    keys: &mut [u32; 4096],
-    heads: &mut [u16; 4096],
-    next: &mut [u16; 4096],
-    count: usize,
-    room: usize,
-    i: usize,
-    q: u32,
-    found: Found,
-    code: u16,
-) -> Taken
-    requires { Stores settings pixels.now tiles.now held from.old keys.old heads.old next.old count room i q found }
-    ensures { TakenAs settings pixels.now tiles.now held (stored_tiles settings pixels.now tiles.now held from.old count ++ tile_at settings pixels.now i ∷ []) room code from.new keys.new heads.new next.new result }
+// The bytes of the stored tiles that are not written, after those that are.
+fn put_tiles(settings: Settings, pixels: &[u8], store: &Store, tiles: &mut [u8])
+    requires { PutsTiles settings pixels.now store.now tiles.old }
+    ensures { tiles.new ≡ sets tiles.old (store.now.held * (settings.depth * 8)) (put_tiles settings pixels.now store.now) }
 {
-    if room <= count {
-        return Taken::NoRoom;
-    }
-    from[count] = i as u16;
-    index::enter(keys, heads, next, count, q, found);
-    Taken::Kept(count + 1, code)
-}
-
-// Tile i of the picture: it is not stored where discarding is on and a stored one matches.
-fn keep_tile(
-    settings: Settings,
-    pixels: &[u8],
-    tiles: &[u8],
-    held: usize,
-    from: &mut [u16; 4096],
-    keys: &mut [u32; 4096],
-    heads: &mut [u16; 4096],
-    next: &mut [u16; 4096],
-    count: usize,
-    room: usize,
-    i: usize,
-) -> Taken
-    requires { Keeps settings pixels.now tiles.now held from.old keys.old heads.old next.old count room i }
-    ensures { KeptAs settings pixels.now tiles.now held (stored_tiles settings pixels.now tiles.now held from.old count) (tile_at settings pixels.now i) room from.new keys.new heads.new next.new result }
-{
-    let tile = take_tile(settings.depth, pixels, settings.columns as usize, i);
-    let q = index::key(&tile, settings.flip);
-    let found = find(
-        settings, pixels, tiles, held, from, keys, heads, next, count, &tile, q,
-    );
-    let Found::At(place, f) = found else {
-        let last = code(Logical(count as u32), Flip { h: false, v: false });
-        return store_tile(
-            settings, pixels, tiles, held, from, keys, heads, next, count, room, i, q, found, last,
-        );
-    };
-    let first = code(place, f);
-    if settings.discard {
-        return Taken::Kept(count, first);
-    }
-    store_tile(
-        settings, pixels, tiles, held, from, keys, heads, next, count, room, i, q, found, first,
-    )
-}
-
-// How many tiles are kept; or there is no room for them.
-#[derive(Clone, Copy)]
-enum Gathered {
-    Count(usize),
-    NoRoom,
-}
-
-// The tiles that are kept of a picture, after so many that are written; and the code of each tile's place among them.
-fn gather(
-    settings: Settings,
-    pixels: &[u8],
-    tiles: &[u8],
-    held: usize,
-    room: usize,
-    from: &mut [u16; 4096],
-    keys: &mut [u32; 4096],
-    heads: &mut [u16; 4096],
-    next: &mut [u16; 4096],
-    codes: &mut [u16; 4096],
-) -> Gathered
-    requires { Gathers settings pixels.now tiles.now held room from.old keys.old heads.old next.old codes.old }
-    ensures { GatheredAs settings pixels.now tiles.now held room from.new codes.new result }
-{
-    let end = (settings.columns * settings.rows) as usize;
-    let mut kept = held;
-    let mut i = 0;
-    while i < end {
-        let Taken::Kept(more, place) = keep_tile(
-            settings, pixels, tiles, held, from, keys, heads, next, kept, room, i,
-        ) else {
-            return Gathered::NoRoom;
-        };
-        codes[i] = place;
-        kept = more;
-        i += 1;
-    }
-    Gathered::Count(kept)
-}
-
-// The bytes of so many stored tiles more, from tile held on.
-fn put_tiles(
-    settings: Settings,
-    pixels: &[u8],
-    from: &[u16; 4096],
-    held: usize,
-    more: usize,
-    tiles: &mut [u8],
-)
-    requires { PutsTiles settings pixels.now from.now held more tiles.old }
-    ensures { tiles.new ≡ sets tiles.old (held * (settings.depth * 8)) (put_tiles settings pixels.now from.now held more) }
-{
-    let p = tile::packing_of(Mode(settings.mode), settings.depth, 8, 8);
+    let p = tile::packing_of(Mode::at(settings.mode), settings.depth, 8, 8);
     let size = (settings.depth * 8) as usize;
     let columns = settings.columns as usize;
-    let mut k = 0;
-    while k < more {
-        let tile = take_tile(settings.depth, pixels, columns, place(from[held + k]));
-        tile::put_tile(p, &tile, 0, tiles, (held + k) * size);
-        k += 1;
+    for k in store.held..store.count {
+        let tile = take_tile(settings.depth, pixels, columns, usize::from(store.from[k]));
+        tile::put_tile(p, &tile, 0, tiles, k * size);
     }
 }
 
 // The entry of a coded place: it names the tile by its native number.
-fn entry_coded(mode: u32, palette: u32, code: u16) -> Mapentry
-    ensures { result ≡ entry_coded mode palette code }
+fn entry_coded(m: Mode, palette: u32, code: u16) -> Mapentry
+    ensures { result ≡ entry_coded m palette code }
 {
     let number = code as u32;
-    let cell = tileset::numbers::first_cell(mode, 8, 8, Logical(number / 4));
+    let cell = tileset::numbers::first_cell(m.number(), 8, 8, Logical(number / 4));
     Mapentry {
         tile: cell.0,
         palette,
@@ -341,40 +239,25 @@ fn entry_coded(mode: u32, palette: u32, code: u16) -> Mapentry
 }
 
 // And back: the tile that an entry names.
-fn tile_named(mode: u32, e: Mapentry) -> Logical
-    ensures { result.0 ≡ tile_named mode 8 8 e }
+fn tile_named(m: Mode, e: Mapentry) -> Logical
+    ensures { result.0 ≡ tile_named m 8 8 e }
 {
-    tileset::numbers::tile_of(mode, 8, 8, Native(e.tile))
+    tileset::numbers::tile_of(m.number(), 8, 8, Native(e.tile))
 }
 
 // The bytes of so many entries, from entry first of the map on.
-fn put_map(mode: u32, palette: u32, codes: &[u16; 4096], first: usize, count: usize, map: &mut [u8])
-    requires { PutsMap mode palette first count codes.now map.old }
-    ensures { map.new ≡ sets map.old (first * (row mode).entry) (put_entries mode palette codes.now count) }
+fn put_map(m: Mode, palette: u32, codes: &[u16; 4096], first: usize, count: usize, map: &mut [u8])
+    requires { PutsMap m palette first count codes.now map.old }
+    ensures { map.new ≡ sets map.old (first * (row m).entry) (put_entries m palette codes.now count) }
 {
-    let m = Mode(mode);
     let size = mapentry::mapentry_size(m);
-    let mut i = 0;
-    while i < count {
+    for i in 0..count {
         mapentry::put_entry(
             m,
-            entry_coded(mode, palette, codes[i]),
+            entry_coded(m, palette, codes[i]),
             map,
             (first + i) * size,
         );
-        i += 1;
-    }
-}
-
-pub fn no_picture(refusal: u32) -> Picture
-    ensures { result ≡ pictured refusal 0 0 0 0 }
-{
-    Picture {
-        refusal,
-        tiles: 0,
-        discarded: 0,
-        tile_bytes: 0,
-        map_bytes: 0,
     }
 }
 
@@ -382,28 +265,26 @@ pub fn no_picture(refusal: u32) -> Picture
 fn put_picture(
     settings: Settings,
     pixels: &[u8],
-    from: &[u16; 4096],
+    store: &Store,
     codes: &[u16; 4096],
-    held: usize,
-    count: usize,
     discarded: usize,
     first: usize,
     tiles: &mut [u8],
     map: &mut [u8],
-) -> Picture
-    requires { PutsPicture settings pixels.now from.now codes.now held count discarded first tiles.old map.old }
-    ensures { PutAs settings pixels.now from.now codes.now held count discarded first tiles.old map.old result tiles.new map.new }
+) -> Counts
+    requires { PutsPicture settings pixels.now store.now codes.now discarded first tiles.old map.old }
+    ensures { PutAs settings pixels.now store.now codes.now discarded first tiles.old map.old result tiles.new map.new }
 {
     let places = (settings.columns * settings.rows) as usize;
     let size = (settings.depth * 8) as usize;
-    let entry = mapentry::mapentry_size(Mode(settings.mode));
-    put_tiles(settings, pixels, from, held, count - held, tiles);
-    put_map(settings.mode, settings.palette, codes, first, places, map);
-    Picture {
-        refusal: 0,
-        tiles: count as u32,
+    let m = Mode::at(settings.mode);
+    let entry = mapentry::mapentry_size(m);
+    put_tiles(settings, pixels, store, tiles);
+    put_map(m, settings.palette, codes, first, places, map);
+    Counts {
+        tiles: store.count as u32,
         discarded: discarded as u32,
-        tile_bytes: count * size,
+        tile_bytes: store.count * size,
         map_bytes: (first + places) * entry,
     }
 }
@@ -418,60 +299,57 @@ pub fn go_on(
     first: usize,
     tiles: &mut [u8],
     map: &mut [u8],
-) -> Picture
+) -> Result<Counts, Refusal>
     requires { CanGoOn settings held first (length pixels.now) (length tiles.old) (length map.old) }
-    ensures { GoesOn (goes_on_says settings pixels.now (unpacked_tiles settings tiles.old held) discarded (length tiles.old)) settings pixels.now (unpacked_tiles settings tiles.old held) discarded first tiles.old map.old result tiles.new map.new }
+    ensures { GoesOn (goes_on_says settings pixels.now (unpacked_tiles settings tiles.old held) discarded (length tiles.old)) settings pixels.now (unpacked_tiles settings tiles.old held) discarded first tiles.old map.old (picture_by result) tiles.new map.new }
 {
-    let mut from = [0u16; 4096];
-    let mut keys = [0u32; 4096];
-    let mut heads = [0u16; 4096];
-    let mut next = [0u16; 4096];
+    let mut store = Store {
+        held,
+        count: 0,
+        from: [0; 4096],
+        index: Index::new(),
+    };
     let mut codes = [0u16; 4096];
     let room = picture_room(settings, tiles.len());
-    index_written(
-        settings, pixels, tiles, held, &from, &mut keys, &mut heads, &mut next,
-    );
-    let Gathered::Count(count) = gather(
-        settings, pixels, tiles, held, room, &mut from, &mut keys, &mut heads, &mut next,
-        &mut codes,
-    ) else {
-        return no_picture(refusal::ROOM);
+    let source = Source {
+        settings,
+        pixels,
+        tiles,
     };
+    store.index_written(&source);
+    store.gather(&source, room, &mut codes)?;
     let places = (settings.columns * settings.rows) as usize;
-    let total = discarded as usize + (held + places - count);
+    let total = discarded as usize + (held + places - store.count);
     if 4294967295 < total {
-        return no_picture(refusal::DISCARDED);
+        return Err(Refusal::Discarded);
     }
-    put_picture(
-        settings, pixels, &from, &codes, held, count, total, first, tiles, map,
-    )
+    Ok(put_picture(settings, pixels, &store, &codes, total, first, tiles, map))
 }
 
 // Converts a picture: it goes on after nothing. What is refused by its settings and lengths takes none of that stack.
-pub fn convert(settings: Settings, pixels: &[u8], tiles: &mut [u8], map: &mut [u8]) -> Picture
-    ensures { Converts (convert_says settings pixels.now (length tiles.old) (length map.old)) settings pixels.now tiles.old map.old result tiles.new map.new }
+pub fn convert(
+    settings: Settings,
+    pixels: &[u8],
+    tiles: &mut [u8],
+    map: &mut [u8],
+) -> Result<Counts, Refusal>
+    ensures { Converts (convert_says settings pixels.now (length tiles.old) (length map.old)) settings pixels.now tiles.old map.old (picture_by result) tiles.new map.new }
 {
-    let number = asked_says(settings, pixels.len(), map.len());
-    if number != 0 {
-        return no_picture(number);
-    }
+    asked_says(settings, pixels.len(), map.len())?;
     go_on(settings, pixels, 0, 0, 0, tiles, map)
 }
 
 // Whether one of so many entries names a tile that is not among so many.
-fn names_more(mode: u32, map: &[u8], count: usize, tiles: usize) -> bool
-    requires { HasEntries mode count map.now }
-    ensures { result ≡ some count (λ i. leb tiles (tile_named mode 8 8 (entry_at mode map.now i))) }
+fn names_more(m: Mode, map: &[u8], count: usize, tiles: usize) -> bool
+    requires { HasEntries m count map.now }
+    ensures { result ≡ some count (λ i. leb tiles (tile_named m 8 8 (entry_at m map.now i))) }
 {
-    let m = Mode(mode);
     let size = mapentry::mapentry_size(m);
-    let mut i = 0;
-    while i < count {
+    for i in 0..count {
         let e = mapentry::get_entry(m, map, i * size);
-        if tiles <= tile_named(mode, e).0 as usize {
+        if tiles <= tile_named(m, e).0 as usize {
             return true;
         }
-        i += 1;
     }
     false
 }
@@ -484,28 +362,26 @@ fn redraw_says(
     tiles: &[u8],
     map: &[u8],
     space: usize,
-) -> u32
-    ensures { result ≡ redraw_says mode depth columns rows tiles.now map.now space }
+) -> Result<(), Refusal>
+    ensures { answered result ≡ redraw_says mode depth columns rows tiles.now map.now space }
 {
-    let number = size_says(mode, depth, columns, rows);
-    if number != 0 {
-        return number;
-    }
+    size_says(mode, depth, columns, rows)?;
     let size = (depth * 8) as usize;
     if tiles.len() % size != 0 {
-        return refusal::LENGTH;
+        return Err(Refusal::Length);
     }
     let count = (columns * rows) as usize;
-    if map.len() != count * mapentry::mapentry_size(Mode(mode)) {
-        return refusal::LENGTH;
+    let m = Mode::at(mode);
+    if map.len() != count * mapentry::mapentry_size(m) {
+        return Err(Refusal::Length);
     }
-    if names_more(mode, map, count, tiles.len() / size) {
-        return refusal::LENGTH;
+    if names_more(m, map, count, tiles.len() / size) {
+        return Err(Refusal::Length);
     }
     if space < 64 * count {
-        return refusal::OUTPUT;
+        return Err(Refusal::Output);
     }
-    0
+    Ok(())
 }
 
 // The tile under a flip, from place at of out on: a row is moved as one word, back from its end under h.
@@ -513,27 +389,19 @@ fn put_flipped(tile: &[u8], f: Flip, out: &mut [u8], at: usize)
     requires { (length tile.now ≡ 64) × (at + 64 ≤ length out.old) }
     ensures { out.new ≡ sets out.old at (flipped f 8 8 tile.now) }
 {
-    let mut y = 0;
-    while y < 8 {
+    for y in 0..8 {
         let row = flip::turned(f.v, 8, y) * 8;
         words::put_eight(tile, row, f.h, out, at + y * 8);
-        y += 1;
     }
 }
 
 // The tile that an entry draws, from place at of out on.
-fn draw_tile(mode: u32, depth: u32, tiles: &[u8], e: Mapentry, out: &mut [u8], at: usize)
-    requires { DrawsTile mode depth tiles.now e out.old at }
-    ensures { out.new ≡ sets out.old at (drawn_tile mode depth tiles.now e) }
+fn draw_tile(m: Mode, depth: u32, tiles: &[u8], e: Mapentry, out: &mut [u8], at: usize)
+    requires { DrawsTile m depth tiles.now e out.old at }
+    ensures { out.new ≡ sets out.old at (drawn_tile m depth tiles.now e) }
 {
     let mut tile = [0u8; 64];
-    read_tile(
-        mode,
-        depth,
-        tiles,
-        tile_named(mode, e).0 as usize,
-        &mut tile,
-    );
+    read_tile(m, depth, tiles, tile_named(m, e).0 as usize, &mut tile);
     put_flipped(
         &tile,
         Flip {
@@ -547,7 +415,7 @@ fn draw_tile(mode: u32, depth: u32, tiles: &[u8], e: Mapentry, out: &mut [u8], a
 
 // A row of tiles, from entry first of the map on, one after the other.
 fn draw_strip(
-    mode: u32,
+    m: Mode,
     depth: u32,
     columns: usize,
     first: usize,
@@ -555,16 +423,13 @@ fn draw_strip(
     map: &[u8],
     out: &mut [u8],
 )
-    requires { DrawsStrip mode depth columns first tiles.now map.now out.old }
-    ensures { out.new ≡ sets out.old 0 (strip_of mode depth columns first tiles.now map.now) }
+    requires { DrawsStrip m depth columns first tiles.now map.now out.old }
+    ensures { out.new ≡ sets out.old 0 (strip_of m depth columns first tiles.now map.now) }
 {
-    let m = Mode(mode);
     let size = mapentry::mapentry_size(m);
-    let mut x = 0;
-    while x < columns {
+    for x in 0..columns {
         let e = mapentry::get_entry(m, map, (first + x) * size);
-        draw_tile(mode, depth, tiles, e, out, x * 64);
-        x += 1;
+        draw_tile(m, depth, tiles, e, out, x * 64);
     }
 }
 
@@ -573,10 +438,8 @@ fn put_line(strip: &[u8], columns: usize, y: usize, out: &mut [u8], at: usize)
     requires { (y < 8) × PutsLines strip.now columns 1 out.old at }
     ensures { out.new ≡ sets out.old at (pixel_line strip.now columns y) }
 {
-    let mut x = 0;
-    while x < columns {
+    for x in 0..columns {
         words::put_eight(strip, x * 64 + y * 8, false, out, at + x * 8);
-        x += 1;
     }
 }
 
@@ -585,32 +448,20 @@ fn put_lines(strip: &[u8], columns: usize, out: &mut [u8], at: usize)
     requires { PutsLines strip.now columns 8 out.old at }
     ensures { out.new ≡ sets out.old at (each 8 (pixel_line strip.now columns)) }
 {
-    let mut y = 0;
-    while y < 8 {
+    for y in 0..8 {
         put_line(strip, columns, y, out, at + y * (columns * 8));
-        y += 1;
     }
 }
 
 // Every pixel of the picture, a row of tiles at a time.
-fn draw(
-    mode: u32,
-    depth: u32,
-    columns: usize,
-    rows: usize,
-    tiles: &[u8],
-    map: &[u8],
-    out: &mut [u8],
-)
-    requires { Draws mode depth columns rows tiles.now map.now out.old }
-    ensures { out.new ≡ overwrite out.old (drawn mode depth columns rows tiles.now map.now) }
+fn draw(m: Mode, depth: u32, columns: usize, rows: usize, tiles: &[u8], map: &[u8], out: &mut [u8])
+    requires { Draws m depth columns rows tiles.now map.now out.old }
+    ensures { out.new ≡ overwrite out.old (drawn m depth columns rows tiles.now map.now) }
 {
     let mut strip = [0u8; 4096];
-    let mut y = 0;
-    while y < rows {
-        draw_strip(mode, depth, columns, y * columns, tiles, map, &mut strip);
+    for y in 0..rows {
+        draw_strip(m, depth, columns, y * columns, tiles, map, &mut strip);
         put_lines(&strip, columns, out, y * (8 * (columns * 8)));
-        y += 1;
     }
 }
 
@@ -623,15 +474,12 @@ pub fn redraw(
     tiles: &[u8],
     map: &[u8],
     out: &mut [u8],
-) -> Written
-    ensures { Wrote (redraw_says mode depth columns rows tiles.now map.now (length out.old)) (drawn mode depth columns rows tiles.now map.now) out.old result out.new }
+) -> Result<usize, Refusal>
+    ensures { Wrote (redraw_says mode depth columns rows tiles.now map.now (length out.old)) (drawn mode depth columns rows tiles.now map.now) out.old (written_by result) out.new }
 {
-    let number = redraw_says(mode, depth, columns, rows, tiles, map, out.len());
-    if number != 0 {
-        return words::refused(number);
-    }
+    redraw_says(mode, depth, columns, rows, tiles, map, out.len())?;
     draw(
-        mode,
+        Mode::at(mode),
         depth,
         columns as usize,
         rows as usize,
@@ -639,8 +487,5 @@ pub fn redraw(
         map,
         out,
     );
-    Written {
-        refusal: 0,
-        written: (64 * (columns * rows)) as usize,
-    }
+    Ok((64 * (columns * rows)) as usize)
 }

@@ -4,119 +4,159 @@ ghost use Rattle.std.specs.Prelude.{◌≡◌, ◌*◌, length, take, drop};
 ghost use Rattle.tile.specs.Tile.{unpacked};
 ghost use Rattle.flip.specs.Matching.{match_flip};
 ghost use Rattle.tileset.specs.Finding.{look_up};
-ghost use Rattle.index.specs.Inner.{Indexed};
-ghost use Rattle.picture.specs.Inner.{HasWritten, stored_tile, stored_tiles, LooksAt, Finds, IndexesWritten};
+ghost use Rattle.picture.specs.Inner.{HasWritten, tile_of, tiles_of, LooksAt, Finds, IndexesWritten, Indexes, Stores, StoredAs, Keeps, KeptAs, Gathers, GatheredAs};
 
-use crate::{Settings, take_tile};
-use flip::Match;
-use index::{bucket, place};
+use crate::{Settings, code, take_tile};
+use flip::Flip;
+use index::{Index, bucket};
 use mode::Mode;
-use tileset::Found;
+use tileset::{Found, Logical};
+use words::refusal::Refusal;
+
+// What stored tiles are read from: the picture, and the tile buffer.
+#[derive(Clone, Copy, Debug)]
+pub struct Source<'a> {
+    pub settings: Settings,
+    pub pixels: &'a [u8],
+    pub tiles: &'a [u8],
+}
+
+// The stored tiles: how many are written, and how many there are; the number in the picture of each that is not written; and their index. It
+// is 40 KiB of fixed memory, for nothing here asks for any: lent, and not to be copied. The tiles are places and not references, since they stand in
+// lent buffers, one of which is written in the end.
+#[derive(Drop)]
+pub struct Store {
+    pub held: usize,
+    pub count: usize,
+    pub from: [u16; 4096],
+    pub index: Index,
+}
 
 // Tile k of a tile buffer, in out.
-pub fn read_tile(mode: u32, depth: u32, tiles: &[u8], k: usize, out: &mut [u8])
-    requires { HasWritten mode depth tiles.now k × (length out.old ≡ 64) }
-    ensures { out.new ≡ unpacked mode depth 8 8 (take (depth * 8) (drop (k * (depth * 8)) tiles.now)) }
+pub fn read_tile(m: Mode, depth: u32, tiles: &[u8], k: usize, out: &mut [u8])
+    requires { HasWritten m depth tiles.now k × (length out.old ≡ 64) }
+    ensures { out.new ≡ unpacked m depth 8 8 (take (depth * 8) (drop (k * (depth * 8)) tiles.now)) }
 {
-    let p = tile::packing_of(Mode(mode), depth, 8, 8);
+    let p = tile::packing_of(m, depth, 8, 8);
     tile::put_pixels(p, tiles, k * (depth * 8) as usize, out, 0);
 }
 
-// How a tile matches another. By the set's search among one: it stands by itself, and reads a row of eight pixels at once; comparing that is
-// compiled into its caller, where the tile was just made, takes it apart into bytes.
-fn match_one(other: &[u8; 64], tile: &[u8; 64], flips: bool) -> Match
+// How a tile matches another, by the set's search among one. It stands by itself, and reads a row of eight pixels at once: compiled into its
+// caller, where the tile was just made, it takes that apart into bytes, and a picture of 4,096 tiles takes a fifth longer.
+#[inline(never)]
+fn match_one(other: &[u8; 64], tile: &[u8; 64], flips: bool) -> Option<Flip>
     ensures { result ≡ match_flip flips 8 8 other.now tile.now }
 {
     let Found::At(_, f) = tileset::find(other, 1, tile, 8, 8, flips) else {
-        return Match::Never;
+        return None;
     };
-    Match::Under(f)
+    Some(f)
 }
 
-// How stored tile k, of which the first held are written, matches the tile, whose key is q: tiles are compared only where their keys agree.
-fn match_at(
-    settings: Settings,
-    pixels: &[u8],
-    tiles: &[u8],
-    held: usize,
-    from: &[u16; 4096],
-    keys: &[u32; 4096],
-    k: usize,
-    tile: &[u8; 64],
-    q: u32,
-) -> Match
-    requires { LooksAt settings pixels.now tiles.now held from.now keys.now k tile.now q }
-    ensures { result ≡ match_flip settings.flip 8 8 (stored_tile settings pixels.now tiles.now held from.now k) tile.now }
-{
-    if keys[k] != q {
-        return Match::Never;
+impl Store {
+    // How stored tile k matches the tile, whose key is q: tiles are compared only where their keys agree.
+    fn match_at(&self, source: &Source, k: usize, tile: &[u8; 64], q: u32) -> Option<Flip>
+        requires { LooksAt source.now self.now k tile.now q }
+        ensures { result ≡ match_flip source.now.settings.flip 8 8 (tile_of source.now self.now k) tile.now }
+    {
+        let z = source.settings;
+        if !self.index.has_key(k, q) {
+            return None;
+        }
+        if k < self.held {
+            let mut other = [0u8; 64];
+            read_tile(Mode::at(z.mode), z.depth, source.tiles, k, &mut other);
+            return match_one(&other, tile, z.flip);
+        }
+        let i = usize::from(self.from[k]);
+        let other = take_tile(z.depth, source.pixels, z.columns as usize, i);
+        match_one(&other, tile, z.flip)
     }
-    if k < held {
-        let mut other = [0u8; 64];
-        read_tile(settings.mode, settings.depth, tiles, k, &mut other);
-        return match_one(&other, tile, settings.flip);
-    }
-    let other = take_tile(
-        settings.depth,
-        pixels,
-        settings.columns as usize,
-        place(from[k]),
-    );
-    match_one(&other, tile, settings.flip)
-}
 
-// The first of count stored tiles that matches the tile, whose key is q.
-pub fn find(
-    settings: Settings,
-    pixels: &[u8],
-    tiles: &[u8],
-    held: usize,
-    from: &[u16; 4096],
-    keys: &[u32; 4096],
-    heads: &[u16; 4096],
-    next: &[u16; 4096],
-    count: usize,
-    tile: &[u8; 64],
-    q: u32,
-) -> Found
-    requires { Finds settings pixels.now tiles.now held from.now keys.now heads.now next.now count tile.now q }
-    ensures { result ≡ look_up settings.flip 8 8 (stored_tiles settings pixels.now tiles.now held from.now count) tile.now }
-{
-    let b = bucket(q);
-    let mut l = place(heads[b]);
-    let mut found = Found::Nothing;
-    while 0 < l {
-        let k = l - 1;
-        let m = match_at(settings, pixels, tiles, held, from, keys, k, tile, q);
-        found = index::over(m, k, found);
-        l = index::link(keys, next, b, k);
+    // The first stored tile that matches the tile, whose key is q.
+    pub fn find(&self, source: &Source, tile: &[u8; 64], q: u32) -> Found
+        requires { Finds source.now self.now tile.now q }
+        ensures { result ≡ look_up source.now.settings.flip 8 8 (tiles_of source.now self.now) tile.now }
+    {
+        let b = bucket(q);
+        let mut l = self.index.head(b);
+        let mut found = Found::Nothing;
+        // A while: the links say where the chain goes on, and no count does.
+        while 0 < l {
+            let k = l - 1;
+            let m = self.match_at(source, k, tile, q);
+            found = index::over(m, k, found);
+            l = self.index.link(b, k);
+        }
+        found
     }
-    found
-}
 
-// The index of the tiles that are written, of which there are held.
-pub fn index_written(
-    settings: Settings,
-    pixels: &[u8],
-    tiles: &[u8],
-    held: usize,
-    from: &[u16; 4096],
-    keys: &mut [u32; 4096],
-    heads: &mut [u16; 4096],
-    next: &mut [u16; 4096],
-)
-    requires { IndexesWritten settings pixels.now tiles.now held from.now heads.old }
-    ensures { Indexed settings.flip (stored_tiles settings pixels.now tiles.now held from.now held) keys.new heads.new next.new }
-{
-    let mut k = 0;
-    while k < held {
-        let mut tile = [0u8; 64];
-        read_tile(settings.mode, settings.depth, tiles, k, &mut tile);
-        let q = index::key(&tile, settings.flip);
-        let found = find(
-            settings, pixels, tiles, held, from, keys, heads, next, k, &tile, q,
-        );
-        index::enter(keys, heads, next, k, q, found);
-        k += 1;
+    // The index of the tiles that are written.
+    pub fn index_written(&mut self, source: &Source)
+        requires { IndexesWritten source.now self.old }
+        ensures { Indexes source.now self.old self.old.held self.new }
+    {
+        let z = source.settings;
+        for k in 0..self.held {
+            let mut tile = [0u8; 64];
+            read_tile(Mode::at(z.mode), z.depth, source.tiles, k, &mut tile);
+            let q = index::key(&tile, z.flip);
+            let found = self.find(source, &tile, q);
+            self.index.enter(k, q, found);
+            self.count = k + 1;
+        }
+    }
+
+    // Tile i of the picture goes at the end, where there is room: its key is q, and found is what a look-up of it found.
+    fn store_tile(&mut self, room: usize, i: usize, q: u32, found: Found) -> Result<(), Refusal>
+        requires { Stores self.old room i }
+        ensures { StoredAs self.old room i q found self.new result }
+    {
+        if room <= self.count {
+            return Err(Refusal::Room);
+        }
+        self.from[self.count] = i as u16;
+        self.index.enter(self.count, q, found);
+        self.count += 1;
+        Ok(())
+    }
+
+    // Tile i of the picture, and the code of its place: it is not stored where discarding is on and a stored one matches.
+    fn keep_tile(&mut self, source: &Source, room: usize, i: usize) -> Result<u16, Refusal>
+        requires { Keeps source.now self.old room i }
+        ensures { KeptAs source.now self.old room i self.new result }
+    {
+        let z = source.settings;
+        let tile = take_tile(z.depth, source.pixels, z.columns as usize, i);
+        let q = index::key(&tile, z.flip);
+        let found = self.find(source, &tile, q);
+        let Found::At(place, f) = found else {
+            let last = code(Logical(self.count as u32), Flip { h: false, v: false });
+            self.store_tile(room, i, q, found)?;
+            return Ok(last);
+        };
+        let first = code(place, f);
+        if z.discard {
+            return Ok(first);
+        }
+        self.store_tile(room, i, q, found)?;
+        Ok(first)
+    }
+
+    // The tiles that are kept of the picture, after those that are written; and the code of each tile's place among them.
+    pub fn gather(
+        &mut self,
+        source: &Source,
+        room: usize,
+        codes: &mut [u16; 4096],
+    ) -> Result<(), Refusal>
+        requires { Gathers source.now self.old room codes.old }
+        ensures { GatheredAs source.now self.old room self.new codes.new result }
+    {
+        let end = (source.settings.columns * source.settings.rows) as usize;
+        for i in 0..end {
+            codes[i] = self.keep_tile(source, room, i)?;
+        }
+        Ok(())
     }
 }

@@ -52,7 +52,7 @@ pub extern "C" fn rumchivoat_pack_tile(
 ) -> Written
     ensures { Wrote (tile.pack_says mode depth width height pixels.now (length out.old)) (tile.packed mode depth width height pixels.now) out.old result out.new }
 {
-    tile::pack_tile(mode, depth, width, height, pixels, out)
+    tile::pack_tile(mode, depth, width, height, pixels, out).into()
 }
 
 // And back.
@@ -67,7 +67,7 @@ pub extern "C" fn rumchivoat_unpack_tile(
 ) -> Written
     ensures { Wrote (tile.unpack_says mode depth width height (length bytes.now) (length out.old)) (tile.unpacked mode depth width height bytes.now) out.old result out.new }
 {
-    tile::unpack_tile(mode, depth, width, height, bytes, out)
+    tile::unpack_tile(mode, depth, width, height, bytes, out).into()
 }
 
 // A native 8x8 tile flipped, as its bytes are: h, v or both.
@@ -82,7 +82,7 @@ pub extern "C" fn rumchivoat_flip_tile(
 ) -> Written
     ensures { Wrote (flip_says mode depth (length bytes.now) (length out.old)) (flipped_bytes mode depth (flip flip_h flip_v) bytes.now) out.old result out.new }
 {
-    nativeflip::flip_tile(mode, depth, flip_h, flip_v, bytes, out)
+    nativeflip::flip_tile(mode, depth, flip_h, flip_v, bytes, out).into()
 }
 
 // Colours of four bytes each, r, g, b, a, to the mode's bytes.
@@ -90,7 +90,7 @@ pub extern "C" fn rumchivoat_flip_tile(
 pub extern "C" fn rumchivoat_pack_colors(mode: u32, colors: &[u8], out: &mut [u8]) -> Written
     ensures { Wrote (pack_says mode colors.now (length out.old)) (packed mode colors.now) out.old result out.new }
 {
-    color::pack_colors(mode, colors, out)
+    color::pack_colors(mode, colors, out).into()
 }
 
 // And back, with alpha 255.
@@ -98,7 +98,7 @@ pub extern "C" fn rumchivoat_pack_colors(mode: u32, colors: &[u8], out: &mut [u8
 pub extern "C" fn rumchivoat_unpack_colors(mode: u32, bytes: &[u8], out: &mut [u8]) -> Written
     ensures { Wrote (unpack_says mode (length bytes.now) (length out.old)) (unpacked mode bytes.now) out.old result out.new }
 {
-    color::unpack_colors(mode, bytes, out)
+    color::unpack_colors(mode, bytes, out).into()
 }
 
 // The station's bool as the kind of rounding.
@@ -117,7 +117,7 @@ fn rounding_of(nearest: bool) -> Rounding
 pub extern "C" fn rumchivoat_reduce_channel(mode: u32, value: u8, nearest: bool) -> Number
     ensures { result ≡ numbered (mode_says mode) (reduced (rounding_of nearest) (row mode).top value) }
 {
-    color::reduce_channel(mode, value, rounding_of(nearest))
+    color::reduce_channel(mode, value, rounding_of(nearest)).into()
 }
 
 // A component to a channel of 0 to 255.
@@ -125,7 +125,7 @@ pub extern "C" fn rumchivoat_reduce_channel(mode: u32, value: u8, nearest: bool)
 pub extern "C" fn rumchivoat_scale_up(mode: u32, component: u32) -> Number
     ensures { result ≡ numbered (scale_says mode component) (scaled_up (row mode).top component) }
 {
-    color::scale_up(mode, component)
+    color::scale_up(mode, component).into()
 }
 
 // The station's numbers as an entry.
@@ -154,11 +154,8 @@ pub extern "C" fn rumchivoat_pack_entry(
 ) -> Written
     ensures { Wrote (entry.pack_says mode (entry_from tile palette flip_h flip_v priority) (length out.old)) (entry.entry_bytes mode (entry_from tile palette flip_h flip_v priority)) out.old result out.new }
 {
-    mapentry::pack_mapentry(
-        mode,
-        entry_from(tile, palette, flip_h, flip_v, priority),
-        out,
-    )
+    let entry = entry_from(tile, palette, flip_h, flip_v, priority);
+    mapentry::pack_mapentry(mode, entry, out).into()
 }
 
 // And back.
@@ -166,7 +163,7 @@ pub extern "C" fn rumchivoat_pack_entry(
 pub extern "C" fn rumchivoat_unpack_entry(mode: u32, bytes: &[u8]) -> Entry
     ensures { result ≡ entry.entered (entry.read_says mode (length bytes.now)) (entry.entry_of mode bytes.now) }
 {
-    mapentry::unpack_mapentry(mode, bytes)
+    mapentry::unpack_mapentry(mode, bytes).into()
 }
 
 // An entry's tile index by itself, as bytes.
@@ -182,11 +179,8 @@ pub extern "C" fn rumchivoat_tile_index(
 ) -> Written
     ensures { Wrote (entry.index_says mode (entry_from tile palette flip_h flip_v priority) (length out.old)) (entry.index_bytes mode (entry_from tile palette flip_h flip_v priority)) out.old result out.new }
 {
-    mapentry::get_tile_index(
-        mode,
-        entry_from(tile, palette, flip_h, flip_v, priority),
-        out,
-    )
+    let entry = entry_from(tile, palette, flip_h, flip_v, priority);
+    mapentry::get_tile_index(mode, entry, out).into()
 }
 
 // What is left of an entry beside its tile index.
@@ -201,7 +195,8 @@ pub extern "C" fn rumchivoat_attribute(
 ) -> Number
     ensures { result ≡ numbered (entry.entry_says mode (entry_from tile palette flip_h flip_v priority)) (entry.attribute_of mode (entry_from tile palette flip_h flip_v priority)) }
 {
-    mapentry::get_attribute(mode, entry_from(tile, palette, flip_h, flip_v, priority))
+    let entry = entry_from(tile, palette, flip_h, flip_v, priority);
+    mapentry::get_attribute(mode, entry).into()
 }
 
 // A set of no tiles.
@@ -217,7 +212,8 @@ pub extern "C" fn rumchivoat_set_new(
 ) -> SetAnswer
     ensures { result ≡ answered_set (set_says mode depth width height) (new_set mode depth width height flips discarding limit) no_set }
 {
-    tileset::set_new(mode, depth, width, height, flips, discarding, limit)
+    let set = tileset::set_new(mode, depth, width, height, flips, discarding, limit);
+    SetAnswer::new(Set::NONE, set)
 }
 
 // A set with both counts 0.
@@ -225,7 +221,7 @@ pub extern "C" fn rumchivoat_set_new(
 pub extern "C" fn rumchivoat_set_reset(set: Set) -> SetAnswer
     ensures { result ≡ answered_set (set_says set.mode set.depth set.width set.height) (emptied set) set }
 {
-    tileset::set_reset(set)
+    SetAnswer::new(set, tileset::set_reset(set))
 }
 
 // The first tile of a set that matches, and its flip.
@@ -233,7 +229,7 @@ pub extern "C" fn rumchivoat_set_reset(set: Set) -> SetAnswer
 pub extern "C" fn rumchivoat_set_look_up(set: Set, store: &[u8], pixels: &[u8]) -> Place
     ensures { result ≡ placed (look_says set (length store.now) (length pixels.now)) (found_in set store.now pixels.now) }
 {
-    tileset::look_up(set, store, pixels)
+    tileset::look_up(set, store, pixels).into()
 }
 
 // A set with one tile more: stored, or discarded where it matches.
@@ -241,7 +237,7 @@ pub extern "C" fn rumchivoat_set_look_up(set: Set, store: &[u8], pixels: &[u8]) 
 pub extern "C" fn rumchivoat_set_add(set: Set, store: &mut [u8], pixels: &[u8]) -> SetAnswer
     ensures { Adds (add_says set store.old pixels.now) set (added set store.old pixels.now) store.old (store_with set store.old pixels.now) result store.new }
 {
-    tileset::add(set, store, pixels)
+    SetAnswer::new(set, tileset::add(set, store, pixels))
 }
 
 // A set's tiles as the mode's bytes.
@@ -249,7 +245,7 @@ pub extern "C" fn rumchivoat_set_add(set: Set, store: &mut [u8], pixels: &[u8]) 
 pub extern "C" fn rumchivoat_set_write(set: Set, store: &[u8], out: &mut [u8]) -> Written
     ensures { Wrote (write_says set store.now (length out.old)) (set_bytes set store.now) out.old result out.new }
 {
-    tileset::write(set, store, out)
+    tileset::write(set, store, out).into()
 }
 
 // A set from the mode's bytes.
@@ -265,7 +261,8 @@ pub extern "C" fn rumchivoat_set_read(
 ) -> SetAnswer
     ensures { Reads mode depth width height flips bytes.now store.old result store.new }
 {
-    tileset::read(mode, depth, width, height, flips, bytes, store)
+    let set = tileset::read(mode, depth, width, height, flips, bytes, store);
+    SetAnswer::new(Set::NONE, set)
 }
 
 // The cell at which a tile starts.
@@ -278,11 +275,9 @@ pub extern "C" fn rumchivoat_native_number(
 ) -> Number
     ensures { result ≡ numbered (native_says mode width height logical) (first_cell mode width height logical) }
 {
-    let answer = tileset::native_number(mode, width, height, Logical(logical));
-    Number {
-        refusal: answer.refusal,
-        value: answer.number.0,
-    }
+    tileset::native_number(mode, width, height, Logical(logical))
+        .map(|cell| cell.0)
+        .into()
 }
 
 // The tile that a cell belongs to.
@@ -295,11 +290,9 @@ pub extern "C" fn rumchivoat_logical_number(
 ) -> Number
     ensures { result ≡ numbered (logical_says mode width height native) (tile_of mode width height native) }
 {
-    let answer = tileset::logical_number(mode, width, height, Native(native));
-    Number {
-        refusal: answer.refusal,
-        value: answer.number.0,
-    }
+    tileset::logical_number(mode, width, height, Native(native))
+        .map(|tile| tile.0)
+        .into()
 }
 
 // The first tile of a title that matches, among the common ones and then its own: its flip, and its part of the store that has it.
@@ -313,7 +306,7 @@ pub extern "C" fn rumchivoat_title_look_up<'a>(
 ) -> Held
     ensures { result ≡ title_held set common_count common.now store.now pixels.now }
 {
-    title::look_up(set, common_count, common, store, pixels)
+    title::look_up(set, common_count, common, store, pixels).into()
 }
 
 // A title's own set with one tile more: stored, or discarded where it matches a common or an own one.
@@ -327,7 +320,32 @@ pub extern "C" fn rumchivoat_title_add(
 ) -> SetAnswer
     ensures { AddsToTitle set common_count common.now store.old pixels.now result store.new }
 {
-    title::add(set, common_count, common, store, pixels)
+    SetAnswer::new(set, title::add(set, common_count, common, store, pixels))
+}
+
+// The station's numbers as settings.
+fn settings_from(
+    mode: u32,
+    depth: u32,
+    flip: bool,
+    discard: bool,
+    limit: u32,
+    palette: u32,
+    columns: u32,
+    rows: u32,
+) -> Settings
+    ensures { result ≡ settings_from mode depth flip discard limit palette columns rows }
+{
+    Settings {
+        mode,
+        depth,
+        flip,
+        discard,
+        limit,
+        palette,
+        columns,
+        rows,
+    }
 }
 
 // A picture to tiles and a map.
@@ -347,17 +365,8 @@ pub extern "C" fn rumchivoat_convert(
 ) -> Picture
     ensures { Converts (convert_says (settings_from mode depth flip discard limit palette columns rows) pixels.now (length tiles.old) (length map.old)) (settings_from mode depth flip discard limit palette columns rows) pixels.now tiles.old map.old result tiles.new map.new }
 {
-    let settings = Settings {
-        mode,
-        depth,
-        flip,
-        discard,
-        limit,
-        palette,
-        columns,
-        rows,
-    };
-    picture::convert(settings, pixels, tiles, map)
+    let settings = settings_from(mode, depth, flip, discard, limit, palette, columns, rows);
+    picture::convert(settings, pixels, tiles, map).into()
 }
 
 // And back.
@@ -373,7 +382,7 @@ pub extern "C" fn rumchivoat_redraw(
 ) -> Written
     ensures { Wrote (redraw_says mode depth columns rows tiles.now map.now (length out.old)) (drawn mode depth columns rows tiles.now map.now) out.old result out.new }
 {
-    picture::redraw(mode, depth, columns, rows, tiles, map, out)
+    picture::redraw(mode, depth, columns, rows, tiles, map, out).into()
 }
 
 // A picture that comes in strips: a run starts with the settings.
@@ -390,17 +399,8 @@ pub extern "C" fn rumchivoat_strip_start(
 ) -> RunAnswer
     ensures { result ≡ started (start_says (settings_from mode depth flip discard limit palette columns rows)) (settings_from mode depth flip discard limit palette columns rows) }
 {
-    let settings = Settings {
-        mode,
-        depth,
-        flip,
-        discard,
-        limit,
-        palette,
-        columns,
-        rows,
-    };
-    strip::start(settings)
+    let settings = settings_from(mode, depth, flip, discard, limit, palette, columns, rows);
+    strip::start(settings).into()
 }
 
 // A strip of its tile rows, one or more: the record is updated in place.
@@ -413,9 +413,13 @@ pub extern "C" fn rumchivoat_strip_take(
 ) -> Picture
     ensures { Takes (take_says run.old pixels.now tiles.old (length map.old)) run.old pixels.now tiles.old map.old (stepped result run.new) tiles.new map.new }
 {
-    let s = strip::take(*run, pixels, tiles, map);
-    *run = s.run;
-    s.picture
+    match strip::take(*run, pixels, tiles, map) {
+        Ok(step) => {
+            *run = step.run;
+            Picture::from(Ok(step.counts))
+        }
+        Err(refusal) => Picture::from(Err(refusal)),
+    }
 }
 
 // Its end, when all rows have come.
@@ -423,7 +427,7 @@ pub extern "C" fn rumchivoat_strip_take(
 pub extern "C" fn rumchivoat_strip_end(run: Run) -> Picture
     ensures { result ≡ ended (end_says run) run }
 {
-    strip::end(run)
+    strip::end(run).into()
 }
 
 // The mode 7 block, from tile bytes and map bytes.
@@ -431,7 +435,7 @@ pub extern "C" fn rumchivoat_strip_end(run: Run) -> Picture
 pub extern "C" fn rumchivoat_mode7_make(tiles: &[u8], map: &[u8], out: &mut [u8]) -> Written
     ensures { Wrote (make_says (length tiles.now) (length map.now) (length out.old)) (block_of tiles.now map.now) out.old result out.new }
 {
-    mode7::make(tiles, map, out)
+    mode7::make(tiles, map, out).into()
 }
 
 // And back: its two halves.
@@ -439,7 +443,7 @@ pub extern "C" fn rumchivoat_mode7_make(tiles: &[u8], map: &[u8], out: &mut [u8]
 pub extern "C" fn rumchivoat_mode7_split(block: &[u8], tiles: &mut [u8], map: &mut [u8]) -> Written
     ensures { Splits (split_says (length block.now) (length tiles.old) (length map.old)) block.now tiles.old map.old result tiles.new map.new }
 {
-    mode7::split(block, tiles, map)
+    mode7::split(block, tiles, map).into()
 }
 
 // The program on slices: all that it would write for an input.

@@ -1,4 +1,4 @@
--- Nothing else is read: an input that is read begins with the text that its settings are written as.
+-- None else is read: an input that is read begins with the text that its settings are written as.
 -- Assumes nothing.
 use Prim.Native.Nat.{ℕ, zero, suc, ◌+◌, ◌*◌, ◌-◌, ◌/◌, ◌%◌, ◌^◌, ◌<◌, ◌≤◌}
 use mathlib.Core.Path.{◌≡◌, refl, sym, ap, ◌∙◌, subst}
@@ -16,72 +16,38 @@ use Rattle.words.specs.Loops.{each}
 use Rattle.words.proofs.Bytes.{same-eq}
 use Rattle.words.proofs.Filling.{each_of}
 use Rattle.words.proofs.Loops.{both_left, both_right}
-use Rattle.mode.specs.Table.{mode_of}
 use Rattle.mode.specs.Names.{name_of, named_from, mode_named}
-use Rattle.mode.specs.declared.Mode.{Mode}
-use Rattle.mode.specs.declared.Named.{Named}
-use Rattle.mode.specs.declared.Named.TheVariants.{Console, Nothing as NoMode}
 use Rattle.picture.specs.declared.Settings.{Settings}
-use Rattle.sheet.specs.Keys.{key_of, line_of, mode}
+use Rattle.sheet.specs.Keys.{key_of, line_of, is_name}
 use Rattle.sheet.specs.Numbers.{largest, digits_of, decimal, digits_from, number_in, at_most}
-use Rattle.sheet.specs.Sheet.{sheet_lines, mode_told, text_says, line_says, line_length, Lines, Numbers, NoLines, lines_then, lines_from, settings_of, values_of, sheet_of, lines_in, with_pixels, sheet_in, text_for, lines_text, sheet_text, Within, IsSheet}
+use Rattle.sheet.specs.Sheet.{sheet_lines, mode_told, text_says, line_says, line_length, Lines, Numbers, NoLines, lines_then, lines_from, settings_of, values_of, sheet, sheet_of, lines_in, with_pixels, sheet_in, text_for, lines_text, sheet_text, Within, IsSheet}
 use Rattle.sheet.specs.declared.Line.{Line}
-use Rattle.sheet.specs.declared.Told.{Told}
-use Rattle.sheet.specs.declared.Told.TheVariants.{Value, Nothing}
+use Rattle.std.specs.Prelude.{Option, Some, None}
 use Rattle.sheet.specs.declared.Sheet.{Sheet}
-use Rattle.sheet.specs.declared.Sheet.TheVariants.{Read, Wrong}
 use Rattle.sheet.proofs.Lines.{is_line, are_lines, mode-top, eight-lines, Bounded, bounded}
 use Rattle.sheet.proofs.Trips.{sheet-back}
 
--- what tells nothing tells no number, and so on
-never-told : {v : ℕ} → Nothing ≡ Value v → ⊥
-never-told e =
-    let no : ◌≡◌ {A = ℕ} 0 1 = cc in
-    omega arith
-
-never-named : {m : Mode} → NoMode ≡ Console m → ⊥
-never-named e =
-    let no : ◌≡◌ {A = ℕ} 0 1 = cc in
-    omega arith
-
-never-lines : {vs : List ℕ} {at : ℕ} → NoLines ≡ Numbers vs at → ⊥
-never-lines e =
-    let no : ◌≡◌ {A = ℕ} 0 1 = cc in
-    omega arith
-
-never-read : {z : Settings} {at : ℕ} → Wrong ≡ Read z at → ⊥
-never-read e =
-    let no : ◌≡◌ {A = ℕ} 0 1 = cc in
-    omega arith
-
 -- a name's mode is one of the sixteen
-named-case : (s : List ℕ) (m k : ℕ) (c : Mode) (b : Bool) → (named_from s (m + 1) k ≡ Console c → c.0 < m + 1 + k)
-    → cond b (Console (mode_of m)) (named_from s (m + 1) k) ≡ Console c → c.0 < m + suc k
-named-case s m k c true ih e =
-    let here : m ≡ c.0 = cc in
+named-case : (s : List ℕ) (m k v : ℕ) (b : Bool) → (named_from s (m + 1) k ≡ Some v → v < m + 1 + k) → cond b (Some m) (named_from s (m + 1) k) ≡ Some v → v < m + suc k
+named-case s m k v true ih e =
+    let here : m ≡ v = cc in
     omega arith
-named-case s m k c false ih e = omega (arith, ih e)
+named-case s m k v false ih e = omega (arith, ih e)
 
-named_small : (s : List ℕ) (m k : ℕ) (c : Mode) → named_from s m k ≡ Console c → c.0 < m + k
-named_small s m zero c e = absurd (never-named e)
-named_small s m (suc k) c e = named-case s m k c (same s (name_of m)) (named_small s (m + 1) k c) e
-
-mode-case : (n : Named) (v : ℕ) → ((c : Mode) → n ≡ Console c → c.0 < 16) → mode_told n ≡ Value v → v ≤ 15
-mode-case (Console c) v h e =
-    let same : c.0 ≡ v = cc in
-    omega (arith, h c refl)
-mode-case NoMode v h e = absurd (never-told e)
+named_small : (s : List ℕ) (m k v : ℕ) → named_from s m k ≡ Some v → v < m + k
+named_small s m zero v e = cc
+named_small s m (suc k) v e = named-case s m k v (same s (name_of m)) (named_small s (m + 1) k v) e
 
 -- a number is at most the largest
-most-case : (top n v : ℕ) (b : Bool) → leb n top ≡ b → cond b (Value n) Nothing ≡ Value v → v ≤ top
+most-case : (top n v : ℕ) (b : Bool) → leb n top ≡ b → cond b (Some n) None ≡ Some v → v ≤ top
 most-case top n v true t e =
     let same : n ≡ v = cc in
     omega (arith, leb-true n top t)
-most-case top n v false t e = absurd (never-told e)
+most-case top n v false t e = cc
 
-most-small : (top v : ℕ) (t : Told) → at_most top t ≡ Value v → v ≤ top
-most-small top v (Value n) e = most-case top n v (leb n top) refl e
-most-small top v Nothing e = absurd (never-told e)
+most-small : (top v : ℕ) (t : Option ℕ) → at_most top t ≡ Some v → v ≤ top
+most-small top v (Some n) e = most-case top n v (leb n top) refl e
+most-small top v None e = cc
 
 -- as many digits as are enough, and no more
 fuel-case : (n : ℕ) (a b : List ℕ) (t : Bool) → (t ≡ false → a ≡ b) → cond t ((48 + n) ∷ []) (a ++ (48 + n % 10) ∷ []) ≡ cond t ((48 + n) ∷ []) (b ++ (48 + n % 10) ∷ [])
@@ -101,26 +67,26 @@ fuel (suc j) (suc k) n some hj hk =
     (λ e. fuel j k (n / 10) (omega (arith, ltb-false n 10 e)) (omega (arith, pow-suc 10 j)) (omega (arith, pow-suc 10 k)))
 
 -- a digit that was read
-skip-left : (t : Bool) (x : Told) (v : ℕ) → cond t Nothing x ≡ Value v → t ≡ false
-skip-left true x v e = absurd (never-told e)
+skip-left : (t : Bool) (x : Option ℕ) (v : ℕ) → cond t None x ≡ Some v → t ≡ false
+skip-left true x v e = cc
 skip-left false x v e = refl
 
-skip-right : (t : Bool) (x : Told) (v : ℕ) → cond t Nothing x ≡ Value v → x ≡ Value v
-skip-right true x v e = absurd (never-told e)
+skip-right : (t : Bool) (x : Option ℕ) (v : ℕ) → cond t None x ≡ Some v → x ≡ Some v
+skip-right true x v e = cc
 skip-right false x v e = e
 
 record Digit (b : ℕ) (bs : List ℕ) (n v : ℕ) : Type 0 where
   low : 48 ≤ b
   high : b ≤ 57
   fits : n * 10 + (b - 48) ≤ largest
-  more : digits_from bs (n * 10 + (b - 48)) ≡ Value v
+  more : digits_from bs (n * 10 + (b - 48)) ≡ Some v
 
-digit-was : (b : ℕ) (bs : List ℕ) (n v : ℕ) → digits_from (b ∷ bs) n ≡ Value v → Digit b bs n v
+digit-was : (b : ℕ) (bs : List ℕ) (n v : ℕ) → digits_from (b ∷ bs) n ≡ Some v → Digit b bs n v
 unfolding digits_from
 digit-was b bs n v e =
     let last = digits_from bs (n * 10 + (b - 48)) in
-    let third = cond (ltb largest (n * 10 + (b - 48))) Nothing last in
-    let second = cond (ltb 57 b) Nothing third in
+    let third = cond (ltb largest (n * 10 + (b - 48))) None last in
+    let second = cond (ltb 57 b) None third in
     let e₂ = skip-right (ltb b 48) second v e in
     let e₃ = skip-right (ltb 57 b) third v e₂ in
     record {
@@ -139,7 +105,7 @@ next-digit j n b p some low high e =
     let below : 48 + (n * 10 + (b - 48)) % 10 ≡ b = omega arith in
     rw (le-ltb (n * 10 + (b - 48)) 10 tens, above, below, e)
 
-digits-only : (bs p : List ℕ) (j n v : ℕ) → 0 < n → n ≤ largest → n < 10 ^ j → p ≡ digits_of j n → digits_from bs n ≡ Value v → p ++ bs ≡ decimal v
+digits-only : (bs p : List ℕ) (j n v : ℕ) → 0 < n → n ≤ largest → n < 10 ^ j → p ≡ digits_of j n → digits_from bs n ≡ Some v → p ++ bs ≡ decimal v
 unfolding digits_from
 digits-only [] p j n v some small fits e told =
     let same : n ≡ v = cc in
@@ -149,7 +115,7 @@ digits-only (b ∷ bs) p j n v some small fits e told =
     sym (append_snoc p b bs)
     ∙ digits-only bs (p ++ b ∷ []) (suc j) (n * 10 + (b - 48)) v (omega arith) d.fits (omega (arith, pow-suc 10 j, d.low, d.high)) (next-digit j n b p some d.low d.high e) d.more
 
-first-only : (b : ℕ) (bs : List ℕ) (v : ℕ) → (b ≡ 48 → ⊥) → digits_from (b ∷ bs) 0 ≡ Value v → b ∷ bs ≡ decimal v
+first-only : (b : ℕ) (bs : List ℕ) (v : ℕ) → (b ≡ 48 → ⊥) → digits_from (b ∷ bs) 0 ≡ Some v → b ∷ bs ≡ decimal v
 unfolding digits_of
 first-only b bs v other told =
     let d = digit-was b bs 0 v told in
@@ -165,77 +131,70 @@ none_left (b ∷ bs) e =
     absurd no
 
 number-case : (b : ℕ) (bs : List ℕ) (v : ℕ) (zero? one? : Bool) → eqb b 48 ≡ zero? → eqb (length (b ∷ bs)) 1 ≡ one?
-    → cond zero? (cond one? (Value 0) Nothing) (digits_from (b ∷ bs) 0) ≡ Value v → b ∷ bs ≡ decimal v
+    → cond zero? (cond one? (Some 0) None) (digits_from (b ∷ bs) 0) ≡ Some v → b ∷ bs ≡ decimal v
 unfolding digits_of
 number-case b bs v true true z o e =
     let byte : b ≡ 48 = eqb-true b 48 z in
     let alone : length bs ≡ 0 = omega (arith, eqb-true (length (b ∷ bs)) 1 o) in
     let same : 0 ≡ v = cc in
     rw (byte, none_left bs alone, ← same)
-number-case b bs v true false z o e = absurd (never-told e)
+number-case b bs v true false z o e = cc
 number-case b bs v false one? z o e = first-only b bs v (eqb-false b 48 z) e
 
-number-only : (s : List ℕ) (v : ℕ) → number_in s ≡ Value v → s ≡ decimal v
+number-only : (s : List ℕ) (v : ℕ) → number_in s ≡ Some v → s ≡ decimal v
 unfolding number_in
-number-only [] v e = absurd (never-told e)
+number-only [] v e = cc
 number-only (b ∷ bs) v e =
     number-case b bs v (eqb b 48) (eqb (length (b ∷ bs)) 1) refl refl
-    (skip-right (eqb (length (b ∷ bs)) 0) (cond (eqb b 48) (cond (eqb (length (b ∷ bs)) 1) (Value 0) Nothing) (digits_from (b ∷ bs) 0)) v e)
+    (skip-right (eqb (length (b ∷ bs)) 0) (cond (eqb b 48) (cond (eqb (length (b ∷ bs)) 1) (Some 0) None) (digits_from (b ∷ bs) 0)) v e)
 
 -- a name that was read
 true-T : (t : Bool) → t ≡ true → T t
 true-T t e = subst T (sym e) tt
 
-name-case : (s : List ℕ) (m : ℕ) (c : Mode) (more : Named) (t : Bool) → same s (name_of m) ≡ t → (more ≡ Console c → s ≡ name_of c.0)
-    → cond t (Console (mode_of m)) more ≡ Console c → s ≡ name_of c.0
-name-case s m c more true h ih e =
-    let here : m ≡ c.0 = cc in
+name-case : (s : List ℕ) (m v : ℕ) (more : Option ℕ) (t : Bool) → same s (name_of m) ≡ t → (more ≡ Some v → s ≡ name_of v) → cond t (Some m) more ≡ Some v → s ≡ name_of v
+name-case s m v more true h ih e =
+    let here : m ≡ v = cc in
     same-eq s (name_of m) (true-T (same s (name_of m)) h) ∙ ap name_of here
-name-case s m c more false h ih e = ih e
+name-case s m v more false h ih e = ih e
 
-name-only : (s : List ℕ) (m k : ℕ) (c : Mode) → named_from s m k ≡ Console c → s ≡ name_of c.0
-name-only s m zero c e = absurd (never-named e)
-name-only s m (suc k) c e = name-case s m c (named_from s (m + 1) k) (same s (name_of m)) refl (name-only s (m + 1) k c) e
-
-mode-only : (s : List ℕ) (v : ℕ) (n : Named) → ((c : Mode) → n ≡ Console c → s ≡ name_of c.0) → mode_told n ≡ Value v → s ≡ name_of v
-mode-only s v (Console c) h e =
-    let same : c.0 ≡ v = cc in
-    h c refl ∙ ap name_of same
-mode-only s v NoMode h e = absurd (never-told e)
+name-only : (s : List ℕ) (m k v : ℕ) → named_from s m k ≡ Some v → s ≡ name_of v
+name-only s m zero v e = cc
+name-only s m (suc k) v e = name-case s m v (named_from s (m + 1) k) (same s (name_of m)) refl (name-only s (m + 1) k v) e
 
 -- a line that was read: its text, and its number
-most-only : (top v n : ℕ) (t : Bool) → cond t (Value n) Nothing ≡ Value v → Value n ≡ Value v
+most-only : (top v n : ℕ) (t : Bool) → cond t (Some n) None ≡ Some v → Some n ≡ Some v
 most-only top v n true e = e
-most-only top v n false e = absurd (never-told e)
+most-only top v n false e = cc
 
-number-was : (top v : ℕ) (t : Told) → at_most top t ≡ Value v → t ≡ Value v
-number-was top v (Value n) e = most-only top v n (leb n top) e
-number-was top v Nothing e = e
+number-was : (top v : ℕ) (t : Option ℕ) → at_most top t ≡ Some v → t ≡ Some v
+number-was top v (Some n) e = most-only top v n (leb n top) e
+number-was top v None e = e
 
 module _ (l : Line) (v : ℕ) where
-  word-case : (text : List ℕ) (named : Bool) → cond named (mode_told (mode_named text)) (at_most l.1 (number_in text)) ≡ Value v → text ≡ cond named (name_of v) (decimal v)
-  word-case text true e = mode-only text v (mode_named text) (λ c. name-only text 0 16 c) e
-  word-case text false e = number-only text v (number-was l.1 v (number_in text) e)
+  word-case : (text : List ℕ) (by_name : Bool) → cond by_name (mode_told (mode_named text)) (at_most l.top (number_in text)) ≡ Some v → text ≡ cond by_name (name_of v) (decimal v)
+  word-case text true e = name-only text 0 16 v e
+  word-case text false e = number-only text v (number-was l.top v (number_in text) e)
 
-  small-case : T (is_line l) → (text : List ℕ) (named : Bool) → eqb l.0 mode ≡ named → cond named (mode_told (mode_named text)) (at_most l.1 (number_in text)) ≡ Value v → v ≤ l.1
-  small-case t text true n e = omega (arith, mode-top l t n, mode-case (mode_named text) v (λ c. named_small text 0 16 c) e)
-  small-case t text false n e = most-small l.1 v (number_in text) e
+  small-case : T (is_line l) → (text : List ℕ) (by_name : Bool) → is_name l.key ≡ by_name → cond by_name (mode_told (mode_named text)) (at_most l.top (number_in text)) ≡ Some v → v ≤ l.top
+  small-case t text true n e = omega (arith, mode-top l t n, named_small text 0 16 v e)
+  small-case t text false n e = most-small l.top v (number_in text) e
 
-  line-case : (bytes : List ℕ) (t : Bool) → same (take (length (key_of l.0)) bytes) (key_of l.0) ≡ t
-      → cond t (text_says l (drop (length (key_of l.0)) bytes)) Nothing ≡ Value v → (bytes ≡ key_of l.0 ++ text_for l v) × (T (is_line l) → v ≤ l.1)
+  line-case : (bytes : List ℕ) (t : Bool) → same (take (length (key_of l.key)) bytes) (key_of l.key) ≡ t
+      → cond t (text_says l (drop (length (key_of l.key)) bytes)) None ≡ Some v → (bytes ≡ key_of l.key ++ text_for l v) × (T (is_line l) → v ≤ l.top)
   unfolding text_says text_for
   line-case bytes true h e =
-      let n = length (key_of l.0) in (
+      let n = length (key_of l.key) in (
         sym (take-append-drop n bytes)
-            ∙ ap (λ (x : List ℕ). x ++ drop n bytes) (same-eq (take n bytes) (key_of l.0) (true-T (same (take n bytes) (key_of l.0)) h))
-            ∙ ap (λ (x : List ℕ). key_of l.0 ++ x) (word-case (drop n bytes) (eqb l.0 mode) e),
-        λ t. small-case t (drop n bytes) (eqb l.0 mode) refl e,
+            ∙ ap (λ (x : List ℕ). x ++ drop n bytes) (same-eq (take n bytes) (key_of l.key) (true-T (same (take n bytes) (key_of l.key)) h))
+            ∙ ap (λ (x : List ℕ). key_of l.key ++ x) (word-case (drop n bytes) (is_name l.key) e),
+        λ t. small-case t (drop n bytes) (is_name l.key) refl e,
       )
-  line-case bytes false h e = absurd (never-told e)
+  line-case bytes false h e = cc
 
-  line-only : (bytes : List ℕ) → line_says l bytes ≡ Value v → (bytes ≡ key_of l.0 ++ text_for l v) × (T (is_line l) → v ≤ l.1)
+  line-only : (bytes : List ℕ) → line_says l bytes ≡ Some v → (bytes ≡ key_of l.key ++ text_for l v) × (T (is_line l) → v ≤ l.top)
   unfolding line_says
-  line-only bytes e = line-case bytes (same (take (length (key_of l.0)) bytes) (key_of l.0)) refl e
+  line-only bytes e = line-case bytes (same (take (length (key_of l.key)) bytes) (key_of l.key)) refl e
 
 -- where a line ends, a newline stands
 newline-case : (b : ℕ) (bs : List ℕ) (t : Bool) → eqb b 10 ≡ t → (line_length bs < length bs → get_or bs (line_length bs) 0 ≡ 10)
@@ -250,8 +209,8 @@ unfolding line_length
 newline-at [] l = absurd (not-suc-le-zero l)
 newline-at (b ∷ bs) l = newline-case b bs (eqb b 10) refl (newline-at bs) l
 
-whole-line : (l : Line) (v : ℕ) (rest : List ℕ) → line_length rest < length rest → line_says l (take (line_length rest) rest) ≡ Value v
-    → take (line_length rest + 1) rest ≡ line_of l.0 (text_for l v)
+whole-line : (l : Line) (v : ℕ) (rest : List ℕ) → line_length rest < length rest → line_says l (take (line_length rest) rest) ≡ Some v
+    → take (line_length rest + 1) rest ≡ line_of l.key (text_for l v)
 unfolding line_of
 whole-line l v rest h e =
     rw (add-one (line_length rest), take-suc rest (line_length rest) 0 h, newline-at rest h, (line-only l v (take (line_length rest) rest) e).0)
@@ -266,15 +225,15 @@ record Were (ls : List Line) (s ws : List ℕ) (to : ℕ) (vs : List ℕ) (at : 
 
 cond-true : (b : Bool) (x : Lines) (ws : List ℕ) (to : ℕ) → cond b x NoLines ≡ Numbers ws to → b ≡ true
 cond-true true x ws to e = refl
-cond-true false x ws to e = absurd (never-lines e)
+cond-true false x ws to e = cc
 
 cond-read : (b : Bool) (x : Lines) (ws : List ℕ) (to : ℕ) → cond b x NoLines ≡ Numbers ws to → x ≡ Numbers ws to
 cond-read true x ws to e = e
-cond-read false x ws to e = absurd (never-lines e)
+cond-read false x ws to e = cc
 
-then-read : (R : Type 0) (t : Told) (f : ℕ → Lines) (ws : List ℕ) (to : ℕ) → lines_then t f ≡ Numbers ws to → ((v : ℕ) → t ≡ Value v → f v ≡ Numbers ws to → R) → R
-then-read R (Value v) f ws to e go = go v refl e
-then-read R Nothing f ws to e go = absurd (never-lines e)
+then-read : (R : Type 0) (t : Option ℕ) (f : ℕ → Lines) (ws : List ℕ) (to : ℕ) → lines_then t f ≡ Numbers ws to → ((v : ℕ) → t ≡ Some v → f v ≡ Numbers ws to → R) → R
+then-read R (Some v) f ws to e go = go v refl e
+then-read R None f ws to e go = cc
 
 module _ (s ws : List ℕ) (to : ℕ) where
   lines-only : (ls : List Line) → T (are_lines ls) → (vs : List ℕ) (at : ℕ) → at ≤ length s → lines_from ls s at vs ≡ Numbers ws to → Were ls s ws to vs at
@@ -341,11 +300,12 @@ pub record SheetLines (s : List ℕ) (z : Settings) (at : ℕ) : Type 0 where
   pub inside : at ≤ length s
 
 module _ (s : List ℕ) (z : Settings) (at : ℕ) where
-  sheet-case : (t : Lines) → lines_from sheet_lines s 0 [] ≡ t → sheet_of t ≡ Read z at → SheetLines s z at
+  sheet-case : (t : Lines) → lines_from sheet_lines s 0 [] ≡ t → sheet_of t ≡ Some (sheet z at) → SheetLines s z at
   unfolding sheet_text
   sheet-case (Numbers ws to) e read =
-      let same : settings_of ws ≡ z = cc in
-      let there : to ≡ at = cc in
+      let whole : sheet (settings_of ws) to ≡ sheet z at = cc in
+      let same : settings_of ws ≡ z = ap (λ (t : Sheet). t.settings) whole in
+      let there : to ≡ at = ap (λ (t : Sheet). t.start) whole in
       let r = lines-only s ws to sheet_lines eight-lines [] 0 (omega arith) e in
       let w : Within sheet_lines ws = subst (Within sheet_lines) (sym r.all) r.within in
       let numbers : ws ≡ values_of z = sym (values-back ws w) ∙ ap values_of same in
@@ -356,30 +316,31 @@ module _ (s : List ℕ) (z : Settings) (at : ℕ) where
         text = ap (λ (i : ℕ). take i s) (sym there) ∙ r.text ∙ ap (lines_text sheet_lines) (sym r.all ∙ numbers);
         inside = omega (arith, r.inside);
       }
-  sheet-case NoLines e read = absurd (never-read read)
+  sheet-case NoLines e read = cc
 
-  pub lines-were : lines_in s ≡ Read z at → SheetLines s z at
+  pub lines-were : lines_in s ≡ Some (sheet z at) → SheetLines s z at
   unfolding lines_in
   lines-were e = sheet-case (lines_from sheet_lines s 0 []) refl e
 
 -- each is read as it was written
-pub sheets-read : (z : Settings) (pixels s : List ℕ) → IsSheet z pixels s → sheet_in s ≡ Read z (length (sheet_text z))
+pub sheets-read : (z : Settings) (pixels s : List ℕ) → IsSheet z pixels s → sheet_in s ≡ Some (sheet z (length (sheet_text z)))
 sheets-read z pixels s h = ap sheet_in h.whole ∙ sheet-back z h.settings pixels h.size
 
 -- and nothing else is read: "Anything else .. is 14"
-pixels-case : (size : ℕ) (y : Settings) (to : ℕ) (z : Settings) (at : ℕ) (b : Bool) → eqb size (to + 64 * (y.columns * y.rows)) ≡ b → cond b (Read y to) Wrong ≡ Read z at
-    → (Read y to ≡ Read z at) × (size ≡ at + 64 * (z.columns * z.rows))
-pixels-case size y to z at true h e =
-    let same : y ≡ z = cc in
-    let start : to ≡ at = cc in
-    (e, eqb-true size (to + 64 * (y.columns * y.rows)) h ∙ rw (same, start))
-pixels-case size y to z at false h e = absurd (never-read e)
+pixels-case : (size : ℕ) (t : Sheet) (z : Settings) (at : ℕ) (b : Bool) → eqb size (t.start + 64 * (t.settings.columns * t.settings.rows)) ≡ b → cond b (Some t) None ≡ Some (sheet z at)
+    → (Some t ≡ Some (sheet z at)) × (size ≡ at + 64 * (z.columns * z.rows))
+pixels-case size t z at true h e =
+    let whole : t ≡ sheet z at = cc in
+    let same : t.settings ≡ z = ap (λ (r : Sheet). r.settings) whole in
+    let start : t.start ≡ at = ap (λ (r : Sheet). r.start) whole in
+    (e, eqb-true size (t.start + 64 * (t.settings.columns * t.settings.rows)) h ∙ rw (same, start))
+pixels-case size t z at false h e = cc
 
-with-pixels : (size : ℕ) (t : Sheet) (z : Settings) (at : ℕ) → with_pixels size t ≡ Read z at → (t ≡ Read z at) × (size ≡ at + 64 * (z.columns * z.rows))
-with-pixels size (Read y to) z at e = pixels-case size y to z at (eqb size (to + 64 * (y.columns * y.rows))) refl e
-with-pixels size Wrong z at e = absurd (never-read e)
+with-pixels : (size : ℕ) (t : Option Sheet) (z : Settings) (at : ℕ) → with_pixels size t ≡ Some (sheet z at) → (t ≡ Some (sheet z at)) × (size ≡ at + 64 * (z.columns * z.rows))
+with-pixels size (Some t) z at e = pixels-case size t z at (eqb size (t.start + 64 * (t.settings.columns * t.settings.rows))) refl e
+with-pixels size None z at e = cc
 
-module _ (s : List ℕ) (z : Settings) (at : ℕ) (e : sheet_in s ≡ Read z at) where
+module _ (s : List ℕ) (z : Settings) (at : ℕ) (e : sheet_in s ≡ Some (sheet z at)) where
   pub sheet-lines : SheetLines s z at
   unfolding sheet_in
   sheet-lines = lines-were s z at (with-pixels (length s) (lines_in s) z at e).0

@@ -18,7 +18,7 @@ use Rattle.sheet.specs.Sheet.{sheet_in}
 use Rattle.sheet.specs.Report.{report_text, refused_text}
 use Rattle.sheet.specs.Program.{tile_space, map_space, input_space, out_space, picture_says, picture_text, picture_tells, sheet_tells, number_of, text_of, fully, Ran}
 use Rattle.sheet.specs.declared.Sheet.{Sheet}
-use Rattle.sheet.specs.declared.Sheet.TheVariants.{Read, Wrong}
+use Rattle.std.specs.Prelude.{Option, Some, None}
 use Rattle.sheet.proofs.Exact.{sheet-lines}
 use Rattle.sheet.proofs.Lengths.{report-length, refused-length, longest}
 
@@ -32,12 +32,12 @@ picture-case z pixels zero known e =
     (arith, length-append (report ++ tile_bytes_of z pixels) (map_bytes_of z pixels), length-append report (tile_bytes_of z pixels), report-length z (answer_of 0 z pixels) known, fit.0, fit.1)
 picture-case z pixels (suc n) known e = omega (arith, refused-length (suc n))
 
-sheet-case : (input : List ℕ) (t : Sheet) → sheet_in input ≡ t → length (sheet_tells input t) ≤ out_space
+sheet-case : (input : List ℕ) (t : Option Sheet) → sheet_in input ≡ t → length (sheet_tells input t) ≤ out_space
 unfolding picture_tells
-sheet-case input (Read z at) e =
-    let b = (sheet-lines input z at e).limits in
-    picture-case z (drop at input) (picture_says z (drop at input)) (omega (arith, b.known)) refl
-sheet-case input Wrong e = omega (arith, refused-length 14)
+sheet-case input (Some t) e =
+    let b = (sheet-lines input t.settings t.start e).limits in
+    picture-case t.settings (drop t.start input) (picture_says t.settings (drop t.start input)) (omega (arith, b.known)) refl
+sheet-case input None e = omega (arith, refused-length 14)
 
 pub text-fits : (input : List ℕ) → length (text_of input) ≤ out_space
 unfolding text_of
@@ -51,13 +51,13 @@ run-answers input before space p =
     p.answer ∙ rw (le-ltb (length before) (length (text_of input)) fits)
 
 -- a buffer one byte longer than the longest sheet loses nothing: what is cut was not read either
-long-case : (s : List ℕ) (t : Sheet) → sheet_in s ≡ t → input_space ≤ length s → t ≡ Wrong
-long-case s (Read z at) e h =
-    let no : ⊥ = omega (arith, longest s z at e) in
+long-case : (s : List ℕ) (t : Option Sheet) → sheet_in s ≡ t → input_space ≤ length s → t ≡ None
+long-case s (Some t) e h =
+    let no : ⊥ = omega (arith, longest s t.settings t.start e) in
     absurd no
-long-case s Wrong e h = refl
+long-case s None e h = refl
 
-long-wrong : (s : List ℕ) → input_space ≤ length s → sheet_in s ≡ Wrong
+long-wrong : (s : List ℕ) → input_space ≤ length s → sheet_in s ≡ None
 long-wrong s h = long-case s (sheet_in s) refl h
 
 cut-case : (n : ℕ) (s : List ℕ) (b : Bool) → input_space ≤ n → ltb n (length s) ≡ b → text_of (take n s) ≡ text_of s

@@ -5,24 +5,27 @@ use mathlib.Core.Path.{◌≡◌, refl}
 use mathlib.Core.List.{List, [], ◌∷◌, ◌++◌}
 use mathlib.Core.Bool.{Bool, true, false, cond}
 use native.Mathlib.Omega.{arith}
-use lib.Dec.{T, leb, ltb, eqb, leb→le}
+use lib.Dec.{T, ltb}
 use lib.ListN.{length, get_or, length-append}
 use borrow.Author.Tests.{ltb-true, ltb-false}
+use Rattle.std.specs.Prelude.{Some}
 use Rattle.words.specs.Loops.{each}
-use Rattle.words.proofs.Loops.{both_left, both_right, all-at}
+use Rattle.words.proofs.Loops.{both_left, both_right}
 use Rattle.mode.specs.Names.{name_of}
 use Rattle.picture.specs.declared.Settings.{Settings}
 use Rattle.picture.specs.declared.Picture.{Picture}
-use Rattle.sheet.specs.Keys.{key_of, line_of, mode, refused}
+use Rattle.sheet.specs.Keys.{key_of, line_of, is_name}
+use Rattle.sheet.specs.declared.keys.Key.{Key}
+use Rattle.sheet.specs.declared.keys.Key.TheVariants.{Mode, Depth, Refused}
 use Rattle.sheet.specs.Numbers.{digits_of, decimal}
-use Rattle.sheet.specs.Sheet.{sheet_lines, values_of, sheet_in, text_for, lines_text, sheet_text, Within}
+use Rattle.sheet.specs.Sheet.{sheet_lines, values_of, sheet, sheet_in, text_for, lines_text, sheet_text, Within}
 use Rattle.sheet.specs.Report.{report_keys, report_values, number_line, report_text, refused_text}
 use Rattle.sheet.specs.Program.{input_space}
-use Rattle.sheet.specs.Inner.{text_most, line_most, report_most, key_count}
+use Rattle.sheet.specs.Inner.{text_most, line_most, report_most}
 use Rattle.sheet.specs.declared.Line.{Line}
-use Rattle.sheet.specs.declared.Sheet.TheVariants.{Read}
 use Rattle.sheet.proofs.Lines.{is_line, are_lines, mode-top, eight-lines, area_small}
-use Rattle.sheet.proofs.Writing.{key-inside}
+use Rattle.sheet.proofs.ByKey.{key-length}
+use Rattle.sheet.proofs.Writing.{digits-most, name-length}
 use Rattle.sheet.proofs.Exact.{sheet-lines, all-size, pixels-start}
 
 -- a larger number has no fewer digits, and ten are the most
@@ -40,38 +43,21 @@ unfolding digits_of
 digits-rise zero n m h = omega arith
 digits-rise (suc k) n m h = rise-case n m (digits_of k (n / 10)) (digits_of k (m / 10)) (ltb n 10) (ltb m 10) refl refl h (digits-rise k (n / 10) (m / 10) (omega arith))
 
-most-case : (k n : ℕ) (l : List ℕ) (t : Bool) → length l ≤ k → length (cond t ((48 + n) ∷ []) (l ++ (48 + n % 10) ∷ [])) ≤ suc k
-most-case k n l true h = omega arith
-most-case k n l false h = omega (arith, length-append l ((48 + n % 10) ∷ []))
-
-digits-most : (k n : ℕ) → length (digits_of k n) ≤ k
-unfolding digits_of
-digits-most zero n = omega arith
-digits-most (suc k) n = most-case k n (digits_of k (n / 10)) (ltb n 10) (digits-most k (n / 10))
-
-name-length : (m : ℕ) → m < 16 → length (name_of m) ≤ text_most
-unfolding name_of
-name-length m h = leb→le (length (name_of m)) text_most (all-at 16 (λ i. leb (length (name_of i)) text_most) tt m h)
-
-key-length : (k : ℕ) → k < key_count → length (key_of k) ≤ text_most
-unfolding key_of
-key-length k h = leb→le (length (key_of k)) text_most (all-at key_count (λ i. leb (length (key_of i)) text_most) tt k h)
-
-line-size : (k b : ℕ) (text : List ℕ) → length text ≤ b → length (line_of k text) ≤ length (key_of k) + b + 1
+line-size : (k : Key) (b : ℕ) (text : List ℕ) → length text ≤ b → length (line_of k text) ≤ length (key_of k) + b + 1
 unfolding line_of
 line-size k b text h = simp length-append (omega arith)
 
 -- lines within their limits, and so the longest sheet
 abbrev text_long : Line → Bool → ℕ
-text_long l named = cond named text_most (length (decimal l.1))
+text_long l named = cond named text_most (length (decimal l.top))
 
 abbrev lines_long : List Line → ℕ
 lines_long [] = 0
-lines_long (l ∷ ls) = length (key_of l.0) + text_long l (eqb l.0 mode) + 1 + lines_long ls
+lines_long (l ∷ ls) = length (key_of l.key) + text_long l (is_name l.key) + 1 + lines_long ls
 
-text-case : (l : Line) → T (is_line l) → (v : ℕ) → v ≤ l.1 → (named : Bool) → eqb l.0 mode ≡ named → length (cond named (name_of v) (decimal v)) ≤ text_long l named
+text-case : (l : Line) → T (is_line l) → (v : ℕ) → v ≤ l.top → (named : Bool) → is_name l.key ≡ named → length (cond named (name_of v) (decimal v)) ≤ text_long l named
 text-case l t v h true e = name-length v (omega (arith, mode-top l t e))
-text-case l t v h false e = digits-rise 10 v l.1 h
+text-case l t v h false e = digits-rise 10 v l.top h
 
 lines_long_lem : (ls : List Line) → T (are_lines ls) → (us : List ℕ) → Within ls us → length (lines_text ls us) ≤ lines_long ls
 unfolding lines_text text_for
@@ -80,15 +66,15 @@ lines_long_lem [] t (u ∷ us) w = absurd w
 lines_long_lem (l ∷ ls) t [] w = absurd w
 lines_long_lem (l ∷ ls) t (u ∷ us) w =
     let text = text_for l u in
-    let long = text-case l (both_left (is_line l) (are_lines ls) t) u w.0 (eqb l.0 mode) refl in
+    let long = text-case l (both_left (is_line l) (are_lines ls) t) u w.0 (is_name l.key) refl in
     omega
-    (arith, length-append (line_of l.0 text) (lines_text ls us), line-size l.0 (text_long l (eqb l.0 mode)) text long, lines_long_lem ls (both_right (is_line l) (are_lines ls) t) us w.1)
+    (arith, length-append (line_of l.key text) (lines_text ls us), line-size l.key (text_long l (is_name l.key)) text long, lines_long_lem ls (both_right (is_line l) (are_lines ls) t) us w.1)
 
 sheet-length : (z : Settings) → Within sheet_lines (values_of z) → length (sheet_text z) ≤ 105
 unfolding sheet_text sheet_lines key_of digits_of
 sheet-length z w = lines_long_lem sheet_lines eight-lines (values_of z) w
 
-pub longest : (s : List ℕ) (z : Settings) (at : ℕ) → sheet_in s ≡ Read z at → length s < input_space
+pub longest : (s : List ℕ) (z : Settings) (at : ℕ) → sheet_in s ≡ Some (sheet z at) → length s < input_space
 longest s z at e =
     let w = (sheet-lines s z at e).settings in
     omega (arith, all-size s z at e, pixels-start s z at e, sheet-length z w, area_small (sheet-lines s z at e).limits)
@@ -98,10 +84,10 @@ numbers-length : (values : List ℕ) (n : ℕ) → n ≤ length report_keys → 
 unfolding number_line
 numbers-length values zero h = omega arith
 numbers-length values (suc n) h =
-    let k = get_or report_keys n 0 in
+    let k = get_or report_keys n Depth in
     let text = decimal (get_or values n 0) in
     omega
-    (arith, length-append (each n (number_line values)) (line_of k text), numbers-length values n (omega arith), line-size k 10 text (digits-most 10 (get_or values n 0)), key-length k (key-inside n h))
+    (arith, length-append (each n (number_line values)) (line_of k text), numbers-length values n (omega arith), line-size k 10 text (digits-most 10 (get_or values n 0)), key-length k)
 
 pub report-length : (z : Settings) (p : Picture) → z.mode < 16 → length (report_text z p) ≤ report_most
 unfolding report_text
@@ -109,8 +95,8 @@ report-length z p known =
     let name = name_of z.mode in
     let numbers = each (length report_keys) (number_line (report_values z p)) in
     omega
-    (arith, length-append (line_of mode name) numbers, numbers-length (report_values z p) (length report_keys) (omega arith), line-size mode text_most name (name-length z.mode known), key-length mode (omega arith))
+    (arith, length-append (line_of Mode name) numbers, numbers-length (report_values z p) (length report_keys) (omega arith), line-size Mode text_most name (name-length z.mode known), key-length Mode)
 
 pub refused-length : (n : ℕ) → length (refused_text n) ≤ line_most
 unfolding refused_text
-refused-length n = omega (arith, line-size refused 10 (decimal n) (digits-most 10 n), key-length refused (omega arith))
+refused-length n = omega (arith, line-size Refused 10 (decimal n) (digits-most 10 n), key-length Refused)

@@ -1,6 +1,6 @@
+pub mod ByKey
 pub mod Reading
 pub mod Lines
-pub mod Tables
 pub mod Writing
 pub mod Telling
 pub mod Trips

@@ -9,39 +9,39 @@ use lib.Dec.{T, leb, eqb, leb→le, eqb→eq}
 use lib.ListN.{length}
 use Rattle.words.proofs.Loops.{both_left, both_right}
 use Rattle.picture.specs.declared.Settings.{Settings}
-use Rattle.sheet.specs.Keys.{key_of, mode}
+use Rattle.sheet.specs.Keys.{key_of, is_name}
 use Rattle.sheet.specs.Numbers.{largest}
 use Rattle.sheet.specs.Sheet.{sheet_lines, side_most, line_length, values_of, Within}
 use Rattle.sheet.specs.declared.Line.{Line}
 
 -- no newline in its key; the sixteen modes, or a number that can be written
 abbrev free_key : Line → Bool
-free_key l = eqb (line_length (key_of l.0)) (length (key_of l.0))
+free_key l = eqb (line_length (key_of l.key)) (length (key_of l.key))
 
 abbrev right_top : Bool → ℕ → Bool
 right_top named top = cond named (eqb top 15) (leb top largest)
 
 unfoldable pub is_line : Line → Bool
-is_line l = free_key l && right_top (eqb l.0 mode) l.1
+is_line l = free_key l && right_top (is_name l.key) l.top
 
 abbrev pub are_lines : List Line → Bool
 are_lines [] = true
 are_lines (l ∷ ls) = is_line l && are_lines ls
 
 module _ (l : Line) (t : T (is_line l)) where
-  pub key-free : line_length (key_of l.0) ≡ length (key_of l.0)
+  pub key-free : line_length (key_of l.key) ≡ length (key_of l.key)
   unfolding is_line
-  key-free = eqb→eq (line_length (key_of l.0)) (length (key_of l.0)) (both_left (free_key l) (right_top (eqb l.0 mode) l.1) t)
+  key-free = eqb→eq (line_length (key_of l.key)) (length (key_of l.key)) (both_left (free_key l) (right_top (is_name l.key) l.top) t)
 
-  top-is : (named : Bool) → eqb l.0 mode ≡ named → T (right_top named l.1)
+  top-is : (named : Bool) → is_name l.key ≡ named → T (right_top named l.top)
   unfolding is_line
-  top-is named e = subst (λ (b : Bool). T (right_top b l.1)) e (both_right (free_key l) (right_top (eqb l.0 mode) l.1) t)
+  top-is named e = subst (λ (b : Bool). T (right_top b l.top)) e (both_right (free_key l) (right_top (is_name l.key) l.top) t)
 
-  pub mode-top : eqb l.0 mode ≡ true → l.1 ≡ 15
-  mode-top e = eqb→eq l.1 15 (top-is true e)
+  pub mode-top : is_name l.key ≡ true → l.top ≡ 15
+  mode-top e = eqb→eq l.top 15 (top-is true e)
 
-  pub number-top : eqb l.0 mode ≡ false → l.1 ≤ largest
-  number-top e = leb→le l.1 largest (top-is false e)
+  pub number-top : is_name l.key ≡ false → l.top ≤ largest
+  number-top e = leb→le l.top largest (top-is false e)
 
 pub eight-lines : T (are_lines sheet_lines)
 unfolding sheet_lines is_line key_of line_length

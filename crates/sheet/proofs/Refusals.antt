@@ -22,7 +22,7 @@ use Rattle.picture.proofs.Palette.{palette-field}
 use Rattle.sheet.specs.Sheet.{sheet_lines, side_most, values_of, sheet_in, Within, IsSheet}
 use Rattle.sheet.specs.Program.{tile_space, map_space, out_space, picture_says, sheet_number, number_of, text_of, Ran}
 use Rattle.sheet.specs.declared.Sheet.{Sheet}
-use Rattle.sheet.specs.declared.Sheet.TheVariants.{Read, Wrong}
+use Rattle.std.specs.Prelude.{Option, Some, None}
 use Rattle.sheet.proofs.Lines.{bounded, area_small}
 use Rattle.sheet.proofs.Telling.{ran-leaves}
 use Rattle.sheet.proofs.Exact.{sheets-read, only-sheets}
@@ -30,7 +30,7 @@ use Rattle.sheet.proofs.Fitting.{run-answers}
 
 -- the numbers of a conversion's checks, but for the map's: its space is enough for every sheet
 abbrev numbers : List ℕ
-numbers = 0 ∷ 1 ∷ 2 ∷ 3 ∷ 4 ∷ 5 ∷ 7 ∷ misfit_says Palette ∷ 12 ∷ []
+numbers = 0 ∷ 1 ∷ 2 ∷ 3 ∷ 4 ∷ 5 ∷ 7 ∷ misfit_says (Some Palette) ∷ 12 ∷ []
 
 unfoldable Among : ℕ → Type 0
 Among n = T (one_of n numbers)
@@ -67,7 +67,7 @@ says-among z pixels w =
     let sized = when-among 4 (not (is_span z.columns && is_span z.rows)) tt in
     let flips = when-among 5 (z.flip && eqb (row z.mode).flips 0) tt in
     let whole = when-among 7 (not (eqb (length pixels) (64 * places z))) tt in
-    let held = when-among (misfit_says Palette) (not (ltb z.palette (2 ^ (row z.mode).palette))) tt in
+    let held = when-among (misfit_says (Some Palette)) (not (ltb z.palette (2 ^ (row z.mode).palette))) tt in
     let fits = subst Among (sym (palette-field z.mode z.palette)) held in
     let room = when-among 12 (ltb (picture_room z tile_space) (need_of 8 8 z pixels)) tt in
     first-among (convert_checks z pixels tile_space map_space)
@@ -77,14 +77,15 @@ says-among z pixels w =
 abbrev pub NoSheet : List ℕ → Type 0
 NoSheet input = (z : Settings) (pixels : List ℕ) → IsSheet z pixels input → ⊥
 
-wrong_case : (input : List ℕ) (t : Sheet) → sheet_in input ≡ t → NoSheet input → sheet_number input t ≡ 14
-wrong_case input (Read z at) e none = absurd (none z (drop at input) (only-sheets input z at e))
-wrong_case input Wrong e none = refl
+wrong_case : (input : List ℕ) (t : Option Sheet) → sheet_in input ≡ t → NoSheet input → sheet_number input t ≡ 14
+wrong_case input (Some t) e none = absurd (none t.settings (drop t.start input) (only-sheets input t.settings t.start e))
+wrong_case input None e none = refl
 
-told-case : (input : List ℕ) (t : Sheet) → sheet_in input ≡ t → sheet_number input t ≡ 11 → ⊥
+told-case : (input : List ℕ) (t : Option Sheet) → sheet_in input ≡ t → sheet_number input t ≡ 11 → ⊥
 unfolding Among
-told-case input (Read z at) e told = subst Among told (says-among z (drop at input) (only-sheets input z at e).settings)
-told-case input Wrong e told = eqb-false 14 11 refl told
+told-case input (Some t) e told =
+    subst Among told (says-among t.settings (drop t.start input) (only-sheets input t.settings t.start e).settings)
+told-case input None e told = eqb-false 14 11 refl told
 
 module _ (input : List ℕ) where
   pub told-14 : NoSheet input → number_of input ≡ 14

@@ -7,20 +7,21 @@ use mathlib.Core.Bool.{Bool, true, false, cond}
 use mathlib.Core.Logic.{◌⊎◌, inl, inr, ⊎_elim}
 use native.Mathlib.Omega.{arith}
 use lib.Dec.{ltb}
-use lib.ListN.{length, take, drop, replicate, length-take, length-append, length-replicate}
+use lib.ListN.{length, take, drop, replicate, length-append, length-replicate}
 use lib.Seq.{take-append_seam, drop-append_seam}
 use borrow.Author.Tests.{ltb-true, ltb-false}
 use Rattle.words.specs.Answers.{written, overwrite}
 use Rattle.words.specs.declared.Written.{Written}
 use Rattle.words.proofs.Answers.{when-done, when-refused}
 use Rattle.picture.specs.declared.Settings.{Settings}
+use Rattle.picture.specs.declared.Counts.{Counts}
 use Rattle.picture.specs.declared.Picture.{Picture}
 use Rattle.picture.specs.Converting.{convert_says, answer_of, tile_bytes_of, map_bytes_of, Converts}
-use Rattle.sheet.specs.Sheet.{sheet_in}
+use Rattle.sheet.specs.Sheet.{sheet, sheet_in}
 use Rattle.sheet.specs.Report.{report_text, refused_text}
-use Rattle.sheet.specs.Inner.{Reportable}
+use Rattle.sheet.specs.Inner.{Tellable}
+use Rattle.std.specs.Prelude.{Some, None}
 use Rattle.sheet.specs.Program.{tile_space, map_space, picture_says, picture_text, picture_tells, number_of, text_of, fully, Ran}
-use Rattle.sheet.specs.declared.Sheet.TheVariants.{Read, Wrong}
 use Rattle.sheet.proofs.Reading.{rest_all}
 
 -- bytes that stand at the start of a buffer are found there
@@ -35,15 +36,10 @@ module _ (bytes before : List ℕ) {after : List ℕ} {n : ℕ} (size : n ≡ le
 pub own-buffers : (z : Settings) (pixels : List ℕ) → convert_says z pixels (length {A = ℕ} (replicate tile_space 0)) (length {A = ℕ} (replicate map_space 0)) ≡ picture_says z pixels
 own-buffers z pixels = rw (length-replicate {A = ℕ} tile_space 0, length-replicate {A = ℕ} map_space 0)
 
-pub reportable : (z : Settings) (p : Picture) (tiles map : List ℕ) → z.mode < 16 → length tiles ≡ tile_space → length map ≡ map_space → p.tile_bytes ≤ length tiles
-    → p.map_bytes ≤ length map
-    → Reportable z p (take p.tile_bytes tiles) (take p.map_bytes map)
-reportable z p tiles map known t m ht hm =
-    record {
-      tellable = record { known = known; tile_length = omega arith; map_length = omega arith };
-      tiles_fit = simp length-take (omega arith);
-      map_fits = simp length-take (omega arith);
-    }
+pub tellable : (z : Settings) (k : Counts) (tiles map : List ℕ) → z.mode < 16 → length tiles ≡ tile_space → length map ≡ map_space → k.tile_bytes ≤ length tiles
+    → k.map_bytes ≤ length map
+    → Tellable z k
+tellable z k tiles map known t m ht hm = record { known = known; tile_length = omega arith; map_length = omega arith }
 
 -- n is the number that the conversion says
 module _ {n : ℕ} {z : Settings} {pixels tiles map : List ℕ} {p : Picture} {tiles_after map_after : List ℕ} (c : Converts n z pixels tiles map p tiles_after map_after) where
@@ -88,21 +84,21 @@ module _ {n : ℕ} {z : Settings} {pixels tiles map : List ℕ} {p : Picture} {t
     refused-picture h ran =
         rw (when-refused (picture_says z pixels) (picture_text z pixels) (refused_text (picture_says z pixels)) (λ e. h (said ∙ due ∙ e)), ← due, ← said) ran
 
-    pub told-picture : (done : p.refusal ≡ 0) → Ran 0 (report_text z p ++ take p.tile_bytes tiles_after ++ take p.map_bytes map_after) before r after
+    pub told-picture : (done : p.refusal ≡ 0) {lines : List ℕ} → lines ≡ report_text z p → Ran 0 (lines ++ take p.tile_bytes tiles_after ++ take p.map_bytes map_after) before r after
         → Ran (picture_says z pixels) (picture_tells z pixels) before r after
     unfolding picture_tells
-    told-picture done ran =
-        rw (sym due ∙ none done) (subst (λ (l : List ℕ). Ran 0 l before r after) (same_text done) ran)
+    told-picture done e ran =
+        rw (sym due ∙ none done) (subst (λ (l : List ℕ). Ran 0 l before r after) (same_text done) (rw e at ran))
 
 -- from a sheet to the program
 module _ (input : List ℕ) {before : List ℕ} {r : Written} {after : List ℕ} where
-  pub ran-read : {z : Settings} {at : ℕ} → sheet_in input ≡ Read z at
+  pub ran-read : {z : Settings} {at : ℕ} → sheet_in input ≡ Some (sheet z at)
       → Ran (picture_says z (take (length input - at) (drop at input))) (picture_tells z (take (length input - at) (drop at input))) before r after
       → Ran (number_of input) (text_of input) before r after
   unfolding number_of text_of
   ran-read {z} {at} e ran = rw e (subst (λ (l : List ℕ). Ran (picture_says z l) (picture_tells z l) before r after) (rest_all input at) ran)
 
-  pub ran-wrong : sheet_in input ≡ Wrong → Ran 14 (refused_text 14) before r after → Ran (number_of input) (text_of input) before r after
+  pub ran-wrong : sheet_in input ≡ None → Ran 14 (refused_text 14) before r after → Ran (number_of input) (text_of input) before r after
   unfolding number_of text_of
   ran-wrong e ran = rw e ran
 

@@ -1,6 +1,6 @@
 -- A sheet that is written from settings is read as those settings, and the pixels start where it ends.
 -- Assumes nothing.
-use Prim.Native.Nat.{ℕ, zero, suc, ◌+◌, ◌*◌, ◌-◌, ◌/◌, ◌%◌, ◌^◌, ◌<◌, ◌≤◌}
+use Prim.Native.Nat.{ℕ, zero, suc, ◌+◌, ◌*◌, ◌/◌, ◌%◌, ◌^◌, ◌<◌, ◌≤◌}
 use mathlib.Core.Path.{◌≡◌, refl, sym, ap, ◌∙◌}
 use mathlib.Core.List.{List, [], ◌∷◌, ◌++◌, append_assoc, append-nil}
 use mathlib.Core.Bool.{Bool, true, false, cond}
@@ -9,29 +9,19 @@ use native.Mathlib.Omega.{arith}
 use lib.Dec.{T, ltb, eqb, eqb→eq}
 use lib.ListN.{length, get_or, drop, length-append, get_or-append}
 use lib.Seq.{take-append_seam, drop-append_seam, drop-drop, append_snoc}
-use borrow.Author.Tests.{lt-ltb, le-ltb, ltb-true, ltb-false, eq-eqb, ne_eqb, le-leb}
+use borrow.Author.Tests.{lt-ltb, ltb-true, ltb-false, eq-eqb, ne_eqb, le-leb}
 use Rattle.words.specs.Bytes.{bit, same}
 use Rattle.words.proofs.Loops.{both_left, both_right, all-at}
 use Rattle.mode.specs.Names.{name_of, mode_named}
 use Rattle.mode.proofs.ByMode.{by_mode}
 use Rattle.picture.specs.declared.Settings.{Settings}
-use Rattle.sheet.specs.Keys.{key_of, line_of, mode}
+use Rattle.sheet.specs.Keys.{key_of, line_of, is_name}
 use Rattle.sheet.specs.Numbers.{largest, digits_of, decimal, digits_from, number_in, at_most}
-use Rattle.sheet.specs.Sheet.{sheet_lines, mode_told, text_says, line_says, line_length, Numbers, lines_from, lines_in, sheet_in, settings_of, values_of, text_for, lines_text, sheet_text, Within}
+use Rattle.sheet.specs.Sheet.{sheet_lines, mode_told, text_says, line_says, line_length, Numbers, lines_from, lines_in, sheet_in, settings_of, values_of, sheet, text_for, lines_text, sheet_text, Within}
 use Rattle.sheet.specs.declared.Line.{Line}
-use Rattle.sheet.specs.declared.Told.TheVariants.{Value}
-use Rattle.sheet.specs.declared.Sheet.TheVariants.{Read}
-use Rattle.sheet.proofs.Reading.{number_digits}
+use Rattle.std.specs.Prelude.{Some}
+use Rattle.sheet.proofs.Reading.{digit-back, number_digits}
 use Rattle.sheet.proofs.Lines.{is_line, are_lines, key-free, mode-top, number-top, eight-lines}
-
--- a digit is read as what it was written from
-digit-back : (d n : ℕ) (rest : List ℕ) → d ≤ 9 → n * 10 + d ≤ largest → digits_from ((48 + d) ∷ rest) n ≡ digits_from rest (n * 10 + d)
-unfolding digits_from
-digit-back d n rest few small =
-    let low : 48 ≤ 48 + d = omega arith in
-    let high : 48 + d ≤ 57 = omega arith in
-    let value : 48 + d - 48 ≡ d = omega arith in
-    rw (le-ltb (48 + d) 48 low, le-ltb 57 (48 + d) high, value, le-ltb largest (n * 10 + d) small)
 
 module _ (k n : ℕ) (rest : List ℕ) (small : n ≤ largest) (ih : digits_from (digits_of k (n / 10) ++ (48 + n % 10) ∷ rest) 0 ≡ digits_from ((48 + n % 10) ∷ rest) (n / 10)) where
   digits-case : (b : Bool) → ltb n 10 ≡ b → digits_from (cond b ((48 + n) ∷ []) (digits_of k (n / 10) ++ (48 + n % 10) ∷ []) ++ rest) 0 ≡ digits_from rest n
@@ -79,7 +69,7 @@ first-digit (suc k) n some h =
     (some-digit k (n / 10) tens less, first-digit k (n / 10) tens less))
 
 -- a number is read as what it was written from
-pub number-back : (n : ℕ) → n ≤ largest → number_in (decimal n) ≡ Value n
+pub number-back : (n : ℕ) → n ≤ largest → number_in (decimal n) ≡ Some n
 unfolding number_in digits_of digits_from
 number-back zero small = refl
 number-back (suc n) small =
@@ -132,53 +122,53 @@ same_refl : (a : List ℕ) → same a a ≡ true
 same_refl [] = refl
 same_refl (x ∷ xs) = rw (eq-eqb x x refl) (same_refl xs)
 
-line-back : (l : Line) (text : List ℕ) → line_says l (key_of l.0 ++ text) ≡ text_says l text
+line-back : (l : Line) (text : List ℕ) → line_says l (key_of l.key ++ text) ≡ text_says l text
 unfolding line_says
-line-back l text = rw (take-append_seam (key_of l.0) text, same_refl (key_of l.0), drop-append_seam (key_of l.0) text)
+line-back l text = rw (take-append_seam (key_of l.key) text, same_refl (key_of l.key), drop-append_seam (key_of l.key) text)
 
 -- what its text tells
-name_back : (m : ℕ) → m < 16 → mode_told (mode_named (name_of m)) ≡ Value m
+name_back : (m : ℕ) → m < 16 → mode_told (mode_named (name_of m)) ≡ Some m
 unfolding name_of
-name_back = by_mode (λ (m : ℕ). mode_told (mode_named (name_of m)) ≡ Value m) refl refl refl refl refl refl refl refl refl refl refl refl refl refl refl refl
+name_back = by_mode (λ (m : ℕ). mode_told (mode_named (name_of m)) ≡ Some m) refl refl refl refl refl refl refl refl refl refl refl refl refl refl refl refl
 
-module _ (l : Line) (t : T (is_line l)) (v : ℕ) (h : v ≤ l.1) where
-  back-case : (named : Bool) → eqb l.0 mode ≡ named
-      → cond named (mode_told (mode_named (cond named (name_of v) (decimal v)))) (at_most l.1 (number_in (cond named (name_of v) (decimal v)))) ≡ Value v
+module _ (l : Line) (t : T (is_line l)) (v : ℕ) (h : v ≤ l.top) where
+  back-case : (by_name : Bool) → is_name l.key ≡ by_name
+      → cond by_name (mode_told (mode_named (cond by_name (name_of v) (decimal v)))) (at_most l.top (number_in (cond by_name (name_of v) (decimal v)))) ≡ Some v
   back-case true e = name_back v (omega (arith, mode-top l t e))
-  back-case false e = rw (number-back v (omega (arith, number-top l t e)), le-leb v l.1 h)
+  back-case false e = rw (number-back v (omega (arith, number-top l t e)), le-leb v l.top h)
 
-  text-back : text_says l (text_for l v) ≡ Value v
+  text-back : text_says l (text_for l v) ≡ Some v
   unfolding text_says text_for
-  text-back = back-case (eqb l.0 mode) refl
+  text-back = back-case (is_name l.key) refl
 
-  text-case : (named : Bool) → eqb l.0 mode ≡ named → line_length (cond named (name_of v) (decimal v)) ≡ length (cond named (name_of v) (decimal v))
+  text-case : (named : Bool) → is_name l.key ≡ named → line_length (cond named (name_of v) (decimal v)) ≡ length (cond named (name_of v) (decimal v))
   text-case true e = name_free v (omega (arith, mode-top l t e))
   text-case false e = digits-free 10 v
 
   text-free : line_length (text_for l v) ≡ length (text_for l v)
   unfolding text_for
-  text-free = text-case (eqb l.0 mode) refl
+  text-free = text-case (is_name l.key) refl
 
 -- one line more: rest is what stands after it
-module _ (l : Line) (t : T (is_line l)) (v : ℕ) (h : v ≤ l.1) (s rest : List ℕ) (at : ℕ) (e : drop at s ≡ line_of l.0 (text_for l v) ++ rest) where
+module _ (l : Line) (t : T (is_line l)) (v : ℕ) (h : v ≤ l.top) (s rest : List ℕ) (at : ℕ) (e : drop at s ≡ line_of l.key (text_for l v) ++ rest) where
   all : List ℕ
-  all = key_of l.0 ++ text_for l v
+  all = key_of l.key ++ text_for l v
 
-  size : length (line_of l.0 (text_for l v)) ≡ length all + 1
+  size : length (line_of l.key (text_for l v)) ≡ length all + 1
   unfolding line_of all
   size = length-append all (10 ∷ [])
 
-  line_read : (ls : List Line) (vs : List ℕ) → lines_from (l ∷ ls) s at vs ≡ lines_from ls s (at + length (line_of l.0 (text_for l v))) (vs ++ v ∷ [])
+  line_read : (ls : List Line) (vs : List ℕ) → lines_from (l ∷ ls) s at vs ≡ lines_from ls s (at + length (line_of l.key (text_for l v))) (vs ++ v ∷ [])
   unfolding lines_from line_length line_of all
   line_read ls vs =
       let here : drop at s ≡ all ++ 10 ∷ rest = e ∙ append_snoc all 10 rest in
-      let ends : line_length (all ++ 10 ∷ rest) ≡ length all = line-joined all (10 ∷ rest) (free-both (key_of l.0) (text_for l v) (key-free l t) (text-free l t v h)) ∙ add-zero (length all) in
+      let ends : line_length (all ++ 10 ∷ rest) ≡ length all = line-joined all (10 ∷ rest) (free-both (key_of l.key) (text_for l v) (key-free l t) (text-free l t v h)) ∙ add-zero (length all) in
       let more : length all < length (all ++ 10 ∷ rest) = omega (arith, length-append all (10 ∷ rest)) in
       rw (here, ends, lt-ltb (length all) (length (all ++ 10 ∷ rest)) more, take-append_seam all (10 ∷ rest), line-back l (text_for l v) ∙ text-back l t v h, size)
 
-  line-left : drop (at + length (line_of l.0 (text_for l v))) s ≡ rest
+  line-left : drop (at + length (line_of l.key (text_for l v))) s ≡ rest
   line-left =
-      let bytes = line_of l.0 (text_for l v) in
+      let bytes = line_of l.key (text_for l v) in
       sym (drop-drop (length bytes) at s) ∙ ap (drop (length bytes)) e ∙ drop-append_seam bytes rest
 
 -- lines are read as the numbers that they were written from
@@ -190,7 +180,7 @@ lines-back [] t (u ∷ us) w s vs rest at e = absurd w
 lines-back (l ∷ ls) t [] w s vs rest at e = absurd w
 lines-back (l ∷ ls) t (u ∷ us) w s vs rest at e =
     let mine = both_left (is_line l) (are_lines ls) t in
-    let bytes = line_of l.0 (text_for l u) in
+    let bytes = line_of l.key (text_for l u) in
     let here : drop at s ≡ bytes ++ (lines_text ls us ++ rest) = e ∙ append_assoc bytes (lines_text ls us) rest in
     let long : at + length bytes + length (lines_text ls us) ≡ at + length (bytes ++ lines_text ls us) = omega (arith, length-append bytes (lines_text ls us)) in
     line_read l mine u w.0 s (lines_text ls us ++ rest) at here ls vs
@@ -206,7 +196,7 @@ unfolding settings_of
 values-told z = rw (bit-back z.flip, bit-back z.discard)
 
 pub sheet-back : (z : Settings) → Within sheet_lines (values_of z) → (pixels : List ℕ) → length pixels ≡ 64 * (z.columns * z.rows)
-    → sheet_in (sheet_text z ++ pixels) ≡ Read z (length (sheet_text z))
+    → sheet_in (sheet_text z ++ pixels) ≡ Some (sheet z (length (sheet_text z)))
 unfolding sheet_in lines_in sheet_text
 sheet-back z w pixels size =
     let read = lines-back sheet_lines eight-lines (values_of z) w (sheet_text z ++ pixels) [] pixels 0 refl in

@@ -2,48 +2,24 @@
 -- Assumes nothing.
 use Prim.Native.Nat.{ℕ, zero, suc, ◌+◌, ◌-◌, ◌/◌, ◌%◌, ◌^◌, ◌<◌, ◌≤◌}
 use mathlib.Core.Path.{◌≡◌, refl, sym, ap, ◌∙◌, subst}
-use mathlib.Core.List.{List, [], ◌∷◌, ◌++◌}
+use mathlib.Core.Bool.{Bool, true, false, cond}
+use mathlib.Core.List.{List, [], ◌∷◌, ◌++◌, append-nil}
 use native.Mathlib.Nat.{not-suc-le-zero, zero-add, pow-suc}
-use native.Mathlib.Numerals.{add-one}
 use native.Mathlib.Omega.{arith}
-use lib.Dec.{ltb, ltb→lt}
-use lib.ListN.{length, get_or, set, take, drop, length-take, length-drop, length-append, length-set}
-use lib.Seq.{length-sets, take-length, take-append_seam, append_snoc, drop-cons, get_or-set_same, drop-set-lt}
+use lib.Dec.{ltb, leb, leb→le}
+use lib.ListN.{length, set, drop, length-append, length-set}
+use lib.Seq.{sets, append_snoc, drop-cons, get_or-set_same, drop-set-lt}
 use borrow.Author.Tests.{lt-ltb, le-ltb}
-use Rattle.words.specs.Answers.{written}
+use mir.Val.{bool_byte}
+use Rattle.words.specs.Answers.{overwrite}
 use Rattle.words.specs.Bytes.{bit}
-use Rattle.words.specs.Loops.{each}
 use Rattle.words.specs.declared.Written.{Written}
 use Rattle.words.proofs.Filling.{sets-append}
 use Rattle.words.proofs.Loops.{all-at, sets-front}
 use Rattle.mode.specs.Names.{name_of}
-use Rattle.picture.specs.declared.Settings.{Settings}
-use Rattle.picture.specs.declared.Picture.{Picture}
-use Rattle.sheet.specs.Keys.{key_of, line_of, mode, refused}
-use Rattle.sheet.specs.Numbers.{digits_of, decimal}
-use Rattle.sheet.specs.Report.{report_keys, number_line, report_text, refused_text}
-use Rattle.sheet.specs.Inner.{text_most, key_count, IsText, Holds, text_in, Puts}
+use Rattle.sheet.specs.Numbers.{digits_of}
+use Rattle.sheet.specs.Inner.{text_most}
 use Rattle.sheet.specs.Program.{fully, Ran}
-use Rattle.sheet.specs.declared.Text.{Text}
-
--- bytes after bytes
-module _ {a b before middle after : List ℕ} {at mid end : ℕ} where
-  pub puts-more : Puts a at before mid middle → Puts b mid middle end after → Puts (a ++ b) at before end after
-  puts-more p q =
-      record {
-        end = q.end ∙ ap (λ (i : ℕ). i + length b) p.end ∙ rw (length-append a b) (omega arith);
-        lent = q.lent ∙ rw (p.lent, p.end) (sym (sets-append a b before at));
-      }
-
-pub puts_none : (l : List ℕ) (at : ℕ) → Puts [] at l at l
-puts_none l at = record { end = omega arith; lent = refl }
-
-pub puts-length : {a before after : List ℕ} {at end : ℕ} → Puts a at before end after → length after ≡ length before
-puts-length {a} {before} {after} {at} p = ap length p.lent ∙ length-sets before at a
-
--- a text's length
-pub text-length : (t : Text) → IsText t → length (text_in t) ≡ t.to - t.from
-text-length t k = simp (length-take, length-drop) (omega arith)
 
 -- one digit more, and the last
 first_of : (bytes : List ℕ) (k b : ℕ) → suc k ≤ length bytes → drop k (set bytes k b) ≡ b ∷ drop (suc k) bytes
@@ -88,73 +64,46 @@ some_left left zero some small =
     absurd no
 some_left left (suc k) some small = omega arith
 
-pub last-held : (n from left : ℕ) (bytes : List ℕ) → 0 < from → from ≤ text_most → left ≤ 9 → left < 10 ^ from → length bytes ≡ text_most
-    → decimal n ≡ digits_of from left ++ drop from bytes
-    → Holds (record { bytes = set bytes (from - 1) (48 + left); from = from - 1; to = text_most }) (decimal n)
-last-held n from left bytes some most few small size e =
-    let left_over : text_most - (from - 1) ≡ length (drop (from - 1) (set bytes (from - 1) (48 + left))) = simp (length-drop, length-set) (omega arith) in
-    record {
-      kept = record { size = length-set bytes (from - 1) (48 + left) ∙ size; order = omega arith; end = omega arith };
-      content = rw (left_over, take-length) (sym (digit-last (decimal n) bytes left from few small some (omega arith) e));
-    }
+-- no number, and no name, is longer than a text
+most-case : (k n : ℕ) (l : List ℕ) (t : Bool) → length l ≤ k → length (cond t ((48 + n) ∷ []) (l ++ (48 + n % 10) ∷ [])) ≤ suc k
+most-case k n l true h = omega arith
+most-case k n l false h = omega (arith, length-append l ((48 + n % 10) ∷ []))
 
-pub held-length : {t : Text} {text : List ℕ} → Holds t text → t.to - t.from ≡ length text
-held-length {t} {text} h = sym (text-length t h.kept) ∙ ap length h.content
+pub digits-most : (k n : ℕ) → length (digits_of k n) ≤ k
+unfolding digits_of
+digits-most zero n = omega arith
+digits-most (suc k) n = most-case k n (digits_of k (n / 10)) (ltb n 10) (digits-most k (n / 10))
 
--- a line: its key, its text and a newline
-module _ (k : ℕ) {at m₁ m₂ end : ℕ} {key : Text} {text before middle later after : List ℕ} where
-  pub line-put : Holds key (key_of k) → Puts (text_in key) at before m₁ middle → Puts text m₁ middle m₂ later → Puts (10 ∷ []) m₂ later end after
-      → Puts (line_of k text) at before end after
-  unfolding line_of
-  line-put h p q r =
-      subst (λ (l : List ℕ). Puts (l ++ text ++ 10 ∷ []) at before end after) h.content (puts-more (puts-more p q) r)
+pub name-length : (m : ℕ) → m < 16 → length (name_of m) ≤ text_most
+unfolding name_of
+name-length m h = leb→le (length (name_of m)) text_most (all-at 16 (λ i. leb (length (name_of i)) text_most) tt m h)
 
--- the report's lines of numbers, one more
-module _ (values : List ℕ) (i : ℕ) {at mid end : ℕ} {number : Text} {before middle after : List ℕ} where
-  pub number_put : Holds number (decimal (get_or values i 0)) → Puts (each i (number_line values)) at before mid middle
-      → Puts (line_of (get_or report_keys i 0) (text_in number)) mid middle end after → Puts (each (i + 1) (number_line values)) at before end after
-  unfolding number_line
-  number_put h p q =
-      rw (add-one i) (puts-more p (subst (λ (l : List ℕ). Puts (line_of (get_or report_keys i 0) l) mid middle end after) h.content q))
+-- a bool as a number
+pub flag_bit : (b : Bool) → bool_byte b ≡ bit b
+flag_bit true = refl
+flag_bit false = refl
 
-pub key-inside : (i : ℕ) → i < length report_keys → get_or report_keys i 0 < key_count
-key-inside i h = ltb→lt (get_or report_keys i 0) key_count (all-at (length report_keys) (λ k. ltb (get_or report_keys k 0) key_count) tt i h)
-
-pub all-numbers : (values : List ℕ) (i : ℕ) {before after : List ℕ} {at end : ℕ} → i ≡ length report_keys → Puts (each i (number_line values)) at before end after
-    → Puts (each (length report_keys) (number_line values)) at before end after
-all-numbers values i {before} {after} {at} {end} e p = subst (λ (k : ℕ). Puts (each k (number_line values)) at before end after) e p
-
--- the whole report
-module _ (z : Settings) (p : Picture) {name : Text} {mid end : ℕ} {before middle after : List ℕ} where
-  pub report-put : Holds name (name_of z.mode) → Puts (line_of mode (text_in name)) 0 before mid middle
-      → {flip discard : ℕ} → flip ≡ bit z.flip → discard ≡ bit z.discard
-      → Puts (each (length report_keys) (number_line (z.depth ∷ flip ∷ discard ∷ z.columns ∷ z.rows ∷ p.tiles ∷ p.discarded ∷ p.tile_bytes ∷ p.map_bytes ∷ []))) mid middle end after
-      → Puts (report_text z p) 0 before end after
-  unfolding report_text
-  report-put h q f d r =
-      puts-more (subst (λ (l : List ℕ). Puts (line_of mode l) 0 before mid middle) h.content q) (rw (← f, ← d) r)
+-- three texts, put one after the other at the front
+three-put : (a b c before : List ℕ) → length a + length b + length c ≤ length before
+    → sets (sets (sets before 0 a) (length a) b) (length a + length b) c ≡ overwrite before (a ++ b ++ c)
+three-put a b c before h =
+    let more : length (a ++ b ++ c) ≤ length before = omega (arith, length-append (a ++ b) c, length-append a b) in
+    let two : sets before 0 (a ++ b) ≡ sets (sets before 0 a) (length a) b = rw (sets-append a b before 0, zero-add (length a)) in
+    let three : sets before 0 (a ++ b ++ c) ≡ sets (sets (sets before 0 a) (length a) b) (length a + length b) c = rw (sets-append (a ++ b) c before 0, two, length-append a b, zero-add (length a + length b)) in
+    sym three ∙ sets-front before (a ++ b ++ c) more
 
 -- the whole text, told or not
-module _ {number : ℕ} {text before : List ℕ} where
-  pub no-space : length before < length text → {r : Written} → r ≡ written 11 0 → Ran number text before r before
-  no-space h e = record { answer = rw (lt-ltb _ _ h) e; lent = rw (lt-ltb _ _ h) }
+pub told : (a b c : List ℕ) {number : ℕ} {text before one two after : List ℕ} → a ≡ text → length a + length b + length c ≤ length before → one ≡ sets before 0 a
+    → two ≡ sets one (length a) b
+    → after ≡ sets two (length a + length b) c
+    → Ran number (text ++ b ++ c) before (fully number (length a + length b + length c)) after
+told a b c {number} {text} {before} e h p q r =
+    let size : length (text ++ b ++ c) ≡ length a + length b + length c = omega (arith, length-append (text ++ b) c, length-append text b, ap length e) in
+    let fits : length (text ++ b ++ c) ≤ length before = omega arith in
+    record { answer = rw (le-ltb _ _ fits, size); lent = rw (le-ltb _ _ fits) (r ∙ rw (q, p, three-put a b c before h, e)) }
 
-  pub told : length text ≤ length before → {end : ℕ} {after : List ℕ} → Puts text 0 before end after → Ran number text before (fully number end) after
-  told h {end} {after} p =
-      record {
-        answer = rw (le-ltb _ _ h) (ap (λ (n : ℕ). fully number n) (p.end ∙ zero-add (length text)));
-        lent = rw (le-ltb _ _ h) (p.lent ∙ sets-front before text h);
-      }
-
--- a text that was made at the start of a buffer
-pub told-front : {number : ℕ} {text buffer lent before : List ℕ} {end : ℕ} {r : Written} {after : List ℕ} → end ≤ length buffer → Puts text 0 buffer end lent
-    → Ran number (take end lent) before r after → Ran number text before r after
-told-front {number} {text} {buffer} {lent} {before} {end} {r} {after} few p ran =
-    let size : end ≡ length text = p.end ∙ zero-add (length text) in
-    let front : take end lent ≡ text = rw (p.lent, size, sets-front buffer text (omega arith)) (take-append_seam text (drop (length text) buffer)) in
-    subst (λ (l : List ℕ). Ran number l before r after) front ran
-
-pub refused-told : {number : ℕ} {t : Text} {before : List ℕ} {r : Written} {after : List ℕ} → Holds t (decimal number) → Ran number (line_of refused (text_in t)) before r after
-    → Ran number (refused_text number) before r after
-unfolding refused_text
-refused-told {number} {before = before} {r} {after} h ran = subst (λ (l : List ℕ). Ran number (line_of refused l) before r after) h.content ran
+-- a text of lines alone
+pub told-alone : {number : ℕ} {lines text before : List ℕ} {r : Written} {after : List ℕ} → lines ≡ text → Ran number (lines ++ [] ++ []) before r after
+    → Ran number text before r after
+told-alone {number} {lines} {text} {before} {r} {after} e ran =
+    subst (λ (l : List ℕ). Ran number l before r after) (append-nil (lines ++ []) ∙ append-nil lines ∙ e) ran

@@ -1,72 +1,45 @@
 -- The keys of the program's lines: "each key=text and a newline".
 -- Assumes nothing.
-use Rattle.std.specs.Prelude.{ℕ, List, [], ◌∷◌, ◌++◌, get_or}
+use Rattle.std.specs.Prelude.{ℕ, Bool, true, false, List, [], ◌∷◌, ◌++◌, codes}
+use Rattle.sheet.specs.declared.keys.Key.{Key}
+use Rattle.sheet.specs.declared.keys.Key.TheVariants.{Mode, Depth, Flip, Discard, Limit, Palette, Columns, Rows, Tiles, Discarded, TileBytes, MapBytes, Refused}
 
 -- Each with its `=`: those of the eight lines that the program reads, "in this order .. mode, depth, flip, discard, limit, palette, columns, rows", then
 -- tiles, discarded, tilebytes, mapbytes, refused.
-abbrev pub keys : List (List ℕ)
-keys =
-    (109 ∷ 111 ∷ 100 ∷ 101 ∷ 61 ∷ [])
-    ∷ (100 ∷ 101 ∷ 112 ∷ 116 ∷ 104 ∷ 61 ∷ [])
-    ∷ (102 ∷ 108 ∷ 105 ∷ 112 ∷ 61 ∷ [])
-    ∷ (100 ∷ 105 ∷ 115 ∷ 99 ∷ 97 ∷ 114 ∷ 100 ∷ 61 ∷ [])
-    ∷ (108 ∷ 105 ∷ 109 ∷ 105 ∷ 116 ∷ 61 ∷ [])
-    ∷ (112 ∷ 97 ∷ 108 ∷ 101 ∷ 116 ∷ 116 ∷ 101 ∷ 61 ∷ [])
-    ∷ (99 ∷ 111 ∷ 108 ∷ 117 ∷ 109 ∷ 110 ∷ 115 ∷ 61 ∷ [])
-    ∷ (114 ∷ 111 ∷ 119 ∷ 115 ∷ 61 ∷ [])
-    ∷ (116 ∷ 105 ∷ 108 ∷ 101 ∷ 115 ∷ 61 ∷ [])
-    ∷ (100 ∷ 105 ∷ 115 ∷ 99 ∷ 97 ∷ 114 ∷ 100 ∷ 101 ∷ 100 ∷ 61 ∷ [])
-    ∷ (116 ∷ 105 ∷ 108 ∷ 101 ∷ 98 ∷ 121 ∷ 116 ∷ 101 ∷ 115 ∷ 61 ∷ [])
-    ∷ (109 ∷ 97 ∷ 112 ∷ 98 ∷ 121 ∷ 116 ∷ 101 ∷ 115 ∷ 61 ∷ [])
-    ∷ (114 ∷ 101 ∷ 102 ∷ 117 ∷ 115 ∷ 101 ∷ 100 ∷ 61 ∷ [])
-    ∷ []
-
-unfoldable pub key_of : ℕ → List ℕ
-key_of k = get_or keys k []
+unfoldable pub key_of : Key → List ℕ
+key_of Mode = codes "mode="
+key_of Depth = codes "depth="
+key_of Flip = codes "flip="
+key_of Discard = codes "discard="
+key_of Limit = codes "limit="
+key_of Palette = codes "palette="
+key_of Columns = codes "columns="
+key_of Rows = codes "rows="
+key_of Tiles = codes "tiles="
+key_of Discarded = codes "discarded="
+key_of TileBytes = codes "tilebytes="
+key_of MapBytes = codes "mapbytes="
+key_of Refused = codes "refused="
 
 abbrev pub newline : ℕ
 newline = 10
 
 -- A line: "key=text and a newline".
-unfoldable pub line_of : ℕ → List ℕ → List ℕ
-line_of k text = key_of k ++ text ++ newline ∷ []
+unfoldable pub line_of : Key → List ℕ → List ℕ
+line_of key text = key_of key ++ text ++ newline ∷ []
 
--- The keys by their names.
-abbrev pub mode : ℕ
-mode = 0
-
-abbrev pub depth : ℕ
-depth = 1
-
-abbrev pub flip : ℕ
-flip = 2
-
-abbrev pub discard : ℕ
-discard = 3
-
-abbrev pub limit : ℕ
-limit = 4
-
-abbrev pub palette : ℕ
-palette = 5
-
-abbrev pub columns : ℕ
-columns = 6
-
-abbrev pub rows : ℕ
-rows = 7
-
-abbrev pub tiles : ℕ
-tiles = 8
-
-abbrev pub discarded : ℕ
-discarded = 9
-
-abbrev pub tilebytes : ℕ
-tilebytes = 10
-
-abbrev pub mapbytes : ℕ
-mapbytes = 11
-
-abbrev pub refused : ℕ
-refused = 12
+-- The text of the mode's line is a name, and never read as a number.
+abbrev pub is_name : Key → Bool
+is_name Mode = true
+is_name Depth = false
+is_name Flip = false
+is_name Discard = false
+is_name Limit = false
+is_name Palette = false
+is_name Columns = false
+is_name Rows = false
+is_name Tiles = false
+is_name Discarded = false
+is_name TileBytes = false
+is_name MapBytes = false
+is_name Refused = false

@@ -1,6 +1,6 @@
 -- The program on slices: one number and one text for every input.
 -- Assumes nothing.
-use Rattle.std.specs.Prelude.{ℕ, ◌≡◌, List, ◌++◌, cond, ltb, length, drop}
+use Rattle.std.specs.Prelude.{ℕ, ◌≡◌, List, ◌++◌, cond, ltb, length, drop, Option, Some, None}
 use Rattle.words.specs.Answers.{unless, written, overwrite}
 use Rattle.words.specs.declared.Written.{Written}
 use Rattle.picture.specs.declared.Settings.{Settings}
@@ -8,7 +8,6 @@ use Rattle.picture.specs.Converting.{convert_says, answer_of, tile_bytes_of, map
 use Rattle.sheet.specs.Sheet.{sheet_in}
 use Rattle.sheet.specs.Report.{report_text, refused_text}
 use Rattle.sheet.specs.declared.Sheet.{Sheet}
-use Rattle.sheet.specs.declared.Sheet.TheVariants.{Read, Wrong}
 
 -- "The tile buffer has 65,536 bytes." The map of 32 x 32 entries has 2,048 at most.
 abbrev pub tile_space : ℕ
@@ -28,9 +27,9 @@ abbrev pub picture_says : Settings → List ℕ → ℕ
 picture_says z pixels = convert_says z pixels tile_space map_space
 
 -- "Program only, before all others: settings lines not as below" (14); "the other numbers follow the table".
-abbrev pub sheet_number : List ℕ → Sheet → ℕ
-sheet_number input (Read z at) = picture_says z (drop at input)
-sheet_number input Wrong = 14
+abbrev pub sheet_number : List ℕ → Option Sheet → ℕ
+sheet_number input (Some read) = picture_says read.settings (drop read.start input)
+sheet_number input None = 14
 
 unfoldable pub number_of : List ℕ → ℕ
 number_of input = sheet_number input (sheet_in input)
@@ -43,9 +42,9 @@ unfoldable pub picture_tells : Settings → List ℕ → List ℕ
 picture_tells z pixels = unless (picture_says z pixels) (picture_text z pixels) (refused_text (picture_says z pixels))
 
 -- All that the program writes.
-abbrev pub sheet_tells : List ℕ → Sheet → List ℕ
-sheet_tells input (Read z at) = picture_tells z (drop at input)
-sheet_tells input Wrong = refused_text 14
+abbrev pub sheet_tells : List ℕ → Option Sheet → List ℕ
+sheet_tells input (Some read) = picture_tells read.settings (drop read.start input)
+sheet_tells input None = refused_text 14
 
 unfoldable pub text_of : List ℕ → List ℕ
 text_of input = sheet_tells input (sheet_in input)

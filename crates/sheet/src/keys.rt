@@ -1,28 +1,47 @@
-// The keys by their numbers, those of the sheet's eight lines in their order first.
-pub const MODE: usize = 0;
+// The keys of the lines that the program reads and writes.
+ghost use Rattle.std.specs.Prelude.{◌≡◌, ◌≤◌, length};
+ghost use Rattle.sheet.specs.Keys.{key_of};
+ghost use Rattle.sheet.specs.Inner.{text_most};
 
-pub const DEPTH: usize = 1;
+// Those of the sheet's eight lines in their order, then those that only a report has.
+#[derive(Clone, Copy, Debug, PartialEq, Eq, Hash)]
+pub enum Key {
+    Mode,
+    Depth,
+    Flip,
+    Discard,
+    Limit,
+    Palette,
+    Columns,
+    Rows,
+    Tiles,
+    Discarded,
+    TileBytes,
+    MapBytes,
+    Refused,
+}
 
-pub const FLIP: usize = 2;
-
-pub const DISCARD: usize = 3;
-
-pub const LIMIT: usize = 4;
-
-pub const PALETTE: usize = 5;
-
-pub const COLUMNS: usize = 6;
-
-pub const ROWS: usize = 7;
-
-pub const TILES: usize = 8;
-
-pub const DISCARDED: usize = 9;
-
-pub const TILE_BYTES: usize = 10;
-
-pub const MAP_BYTES: usize = 11;
-
-pub const REFUSED: usize = 12;
-
-pub const COUNT: usize = 13;
+impl Key {
+    // The key with its `=`.
+    #[tactic(auto, unfolding(crate::specs::Keys::key_of))]
+    pub fn text(self) -> &'static [u8]
+        ensures text { result.now ≡ key_of self }
+        ensures length { length result.now ≤ text_most }
+    {
+        match self {
+            Key::Mode => b"mode=",
+            Key::Depth => b"depth=",
+            Key::Flip => b"flip=",
+            Key::Discard => b"discard=",
+            Key::Limit => b"limit=",
+            Key::Palette => b"palette=",
+            Key::Columns => b"columns=",
+            Key::Rows => b"rows=",
+            Key::Tiles => b"tiles=",
+            Key::Discarded => b"discarded=",
+            Key::TileBytes => b"tilebytes=",
+            Key::MapBytes => b"mapbytes=",
+            Key::Refused => b"refused=",
+        }
+    }
+}

@@ -2,81 +2,73 @@
 #![tactic(auto)]
 
 mod keys;
+mod text;
 
-ghost use Rattle.std.specs.Prelude.{◌≡◌, ◌++◌, ◌+◌, ◌≤◌, ◌<◌, length};
-ghost use Rattle.words.specs.Loops.{each};
-ghost use Rattle.mode.specs.Names.{name_of, mode_named};
-ghost use Rattle.sheet.specs.Keys.{key_of, line_of};
-ghost use Rattle.sheet.specs.Numbers.{decimal, digits_from, number_in, at_most};
-ghost use Rattle.sheet.specs.Sheet.{sheet_lines, mode_told, text_says, line_says, line_length, settings_of, lines_in, sheet_in};
-ghost use Rattle.sheet.specs.Report.{report_keys, number_line, report_text, refused_text};
-ghost use Rattle.sheet.specs.Inner.{text_most, line_most, numbers_most, report_most, key_count, line_at, IsText, Holds, text_in, Puts, Tellable, Reportable};
-ghost use Rattle.sheet.specs.Program.{picture_says, picture_tells, number_of, text_of, Ran};
+ghost use Rattle.std.specs.Prelude.{◌≡◌, ◌++◌, ◌≤◌, ◌<◌, length, Ok};
+ghost use Rattle.words.specs.Refusals.{refusal_number};
+ghost use Rattle.mode.specs.Names.{mode_named};
+ghost use Rattle.picture.specs.Converting.{picture_by};
+ghost use Rattle.sheet.specs.Numbers.{digits_from, number_in, at_most};
+ghost use Rattle.sheet.specs.Sheet.{mode_told, text_says, line_says, line_length, settings_of, lines_in, sheet_in};
+ghost use Rattle.sheet.specs.Report.{report_text, refused_text};
+ghost use Rattle.sheet.specs.Inner.{Tellable};
+ghost use Rattle.sheet.specs.Program.{tile_space, map_space, picture_says, picture_tells, number_of, text_of, Ran};
 
-use mode::Named;
-use picture::{Picture, Settings};
-use words::{Written, refusal};
+use keys::Key;
+use mode::Mode;
+use picture::{Counts, Settings};
+use text::Text;
+use words::Written;
+use words::refusal::Refusal;
 
-// Each key with its `=`, zeros after it to ten bytes, and its length.
-const KEYS: [[u8; TEXT_MOST]; keys::COUNT] = [
-    *b"mode=\0\0\0\0\0",
-    *b"depth=\0\0\0\0",
-    *b"flip=\0\0\0\0\0",
-    *b"discard=\0\0",
-    *b"limit=\0\0\0\0",
-    *b"palette=\0\0",
-    *b"columns=\0\0",
-    *b"rows=\0\0\0\0\0",
-    *b"tiles=\0\0\0\0",
-    *b"discarded=",
-    *b"tilebytes=",
-    *b"mapbytes=\0",
-    *b"refused=\0\0",
-];
+// The most columns and rows.
+const COLUMNS_MOST: u32 = 32;
 
-const KEY_LENGTHS: [usize; keys::COUNT] = [5, 6, 5, 8, 6, 8, 8, 5, 6, 10, 10, 9, 8];
-
-// The largest number, and the most columns and rows.
-const LARGEST: u32 = 4294967295;
-
-const SIDE_MOST: u32 = 32;
+const ROWS_MOST: u32 = 32;
 
 // A line of a sheet: its key, and the largest number that it tells. The text of the mode's line is a name.
-#[derive(Clone, Copy)]
-struct Line(usize, u32);
+#[derive(Clone, Copy, Debug, PartialEq, Eq)]
+struct Line {
+    key: Key,
+    top: u32,
+}
 
 const LINE_COUNT: usize = 8;
 
 const LINES: [Line; LINE_COUNT] = [
-    Line(keys::MODE, 15),
-    Line(keys::DEPTH, LARGEST),
-    Line(keys::FLIP, 1),
-    Line(keys::DISCARD, 1),
-    Line(keys::LIMIT, LARGEST),
-    Line(keys::PALETTE, LARGEST),
-    Line(keys::COLUMNS, SIDE_MOST),
-    Line(keys::ROWS, SIDE_MOST),
+    Line {
+        key: Key::Mode,
+        top: 15,
+    },
+    Line {
+        key: Key::Depth,
+        top: u32::MAX,
+    },
+    Line {
+        key: Key::Flip,
+        top: 1,
+    },
+    Line {
+        key: Key::Discard,
+        top: 1,
+    },
+    Line {
+        key: Key::Limit,
+        top: u32::MAX,
+    },
+    Line {
+        key: Key::Palette,
+        top: u32::MAX,
+    },
+    Line {
+        key: Key::Columns,
+        top: COLUMNS_MOST,
+    },
+    Line {
+        key: Key::Rows,
+        top: ROWS_MOST,
+    },
 ];
-
-// The report's lines of numbers.
-const NUMBER_COUNT: usize = 9;
-
-const NUMBER_KEYS: [usize; NUMBER_COUNT] = [
-    keys::DEPTH,
-    keys::FLIP,
-    keys::DISCARD,
-    keys::COLUMNS,
-    keys::ROWS,
-    keys::TILES,
-    keys::DISCARDED,
-    keys::TILE_BYTES,
-    keys::MAP_BYTES,
-];
-
-// The most bytes: of a text, of a line with its key and newline, of the report's lines.
-const TEXT_MOST: usize = 10;
-
-const LINE_MOST: usize = 21;
 
 // The space for a picture's tiles and for its map.
 const TILE_SPACE: usize = 65536;
@@ -89,345 +81,180 @@ pub const INPUT_SPACE: usize = 65642;
 // Enough for the report's lines, all tile bytes and all map bytes.
 pub const OUT_SPACE: usize = 67840;
 
-// What a text tells.
-#[derive(Clone, Copy)]
-pub enum Told {
-    Value(u32),
-    Nothing,
-}
-
-// What an input holds: the settings and where the pixels start, or no such thing.
-#[derive(Clone, Copy)]
-pub enum Sheet {
-    Read(Settings, usize),
-    Wrong,
-}
-
-// A text of ten bytes at most: those of an array from one place up to another.
-#[derive(Clone, Copy)]
-struct Text {
-    pub bytes: [u8; TEXT_MOST],
-    pub from: usize,
-    pub to: usize,
-}
-
-fn key(k: usize) -> Text
-    requires { k < key_count }
-    ensures { Holds result (key_of k) }
-{
-    Text {
-        bytes: KEYS[k],
-        from: 0,
-        to: KEY_LENGTHS[k],
-    }
-}
-
-fn name(m: u32) -> Text
-    requires { m < 16 }
-    ensures { Holds result (name_of m) }
-{
-    let i = m as usize;
-    Text {
-        bytes: mode::NAMES[i],
-        from: 0,
-        to: mode::LENGTHS[i],
-    }
-}
-
-// A number, in decimal.
-fn numeral(n: u32) -> Text
-    ensures { Holds result (decimal n) }
-{
-    let mut bytes = [0u8; TEXT_MOST];
-    let mut from: usize = TEXT_MOST;
-    let mut left = n;
-    while 9 < left {
-        from -= 1;
-        bytes[from] = (48 + left % 10) as u8;
-        left /= 10;
-    }
-    from -= 1;
-    bytes[from] = (48 + left) as u8;
-    Text {
-        bytes,
-        from,
-        to: TEXT_MOST,
-    }
+// What an input holds: the settings, and where the pixels start.
+#[derive(Clone, Copy, Debug, PartialEq, Eq)]
+pub struct Sheet {
+    pub settings: Settings,
+    pub start: usize,
 }
 
 // How many bytes stand before the first newline.
 pub fn line_length(s: &[u8]) -> usize
     ensures { (result ≡ line_length s.now) × (result ≤ length s.now) }
 {
-    let mut i: usize = 0;
-    while i < s.len() {
+    for i in 0..s.len() {
         if s[i] == b'\n' {
             return i;
         }
-        i += 1;
     }
-    i
+    s.len()
 }
 
 // The number that digits give, a leading zero let through.
-fn digits(s: &[u8]) -> Told
+fn digits(s: &[u8]) -> Option<u32>
     ensures { result ≡ digits_from s.now 0 }
 {
-    let mut n: u64 = 0;
-    let mut i: usize = 0;
-    while i < s.len() {
-        let b = words::wide(s[i]) as u64;
-        if b < 48 {
-            return Told::Nothing;
-        }
-        if 57 < b {
-            return Told::Nothing;
-        }
-        let next = n * 10 + (b - 48);
-        if 4294967295 < next {
-            return Told::Nothing;
-        }
-        n = next;
-        i += 1;
+    let mut n: u32 = 0;
+    for b in s {
+        let digit = char::from(*b).to_digit(10)?;
+        n = n.checked_mul(10)?.checked_add(digit)?;
     }
-    Told::Value(n as u32)
+    Some(n)
 }
 
 const ZERO: u8 = b'0';
 
 // "No leading zero, 0 as `0`."
-pub fn number(s: &[u8]) -> Told
+pub fn number(s: &[u8]) -> Option<u32>
     ensures { result ≡ number_in s.now }
 {
-    if s.len() == 0 {
-        return Told::Nothing;
+    match s {
+        [] => None,
+        [first, ..] if *first != ZERO => digits(s),
+        [_] => Some(0),
+        _ => None,
     }
-    if s[0] == ZERO {
-        if s.len() == 1 {
-            return Told::Value(0);
-        }
-        return Told::Nothing;
-    }
-    digits(s)
 }
 
-fn at_most(top: u32, told: Told) -> Told
+fn at_most(top: u32, told: Option<u32>) -> Option<u32>
     ensures { result ≡ at_most top told }
 {
-    match told {
-        Told::Value(n) => {
-            if n <= top {
-                return Told::Value(n);
-            }
-            return Told::Nothing;
-        }
-        Told::Nothing => {
-            return Told::Nothing;
-        }
-    }
+    told.filter(|n| *n <= top)
 }
 
-fn mode_told(s: &[u8]) -> Told
+fn mode_told(s: &[u8]) -> Option<u32>
     ensures { result ≡ mode_told (mode_named s.now) }
 {
-    match mode::mode_named(s) {
-        Named::Console(m) => {
-            return Told::Value(m.0);
-        }
-        Named::Nothing => {
-            return Told::Nothing;
-        }
-    }
-}
-
-fn line_at(k: usize) -> Line
-    requires { k < length sheet_lines }
-    ensures { result ≡ line_at k }
-{
-    LINES[k]
+    Mode::named(s).map(|mode| mode.number())
 }
 
 // What the text of a line tells.
-fn text_says(line: Line, text: &[u8]) -> Told
+fn text_says(line: Line, text: &[u8]) -> Option<u32>
     ensures { result ≡ text_says line text.now }
 {
-    let key = line.0;
-    if key == keys::MODE {
-        return mode_told(text);
+    match line.key {
+        Key::Mode => mode_told(text),
+        _ => at_most(line.top, number(text)),
     }
-    at_most(line.1, number(text))
 }
 
 // What a line tells, its newline left out.
-fn line_says(line: Line, bytes: &[u8]) -> Told
-    requires { line.0 < key_count }
+fn line_says(line: Line, bytes: &[u8]) -> Option<u32>
     ensures { result ≡ line_says line bytes.now }
 {
-    let key = key(line.0);
-    let key_bytes = key.bytes;
-    let from = key.from;
-    let to = key.to;
-    let n = to - from;
-    if bytes.len() < n {
-        return Told::Nothing;
-    }
-    if words::same_bytes(&bytes[..n], &key_bytes[from..to]) {
-        return text_says(line, &bytes[n..]);
-    }
-    Told::Nothing
+    let text = bytes.strip_prefix(line.key.text())?;
+    text_says(line, text)
 }
 
+#[tactic(auto, unfolding(crate::specs::Sheet::settings_of))]
 fn settings(values: [u32; LINE_COUNT]) -> Settings
     ensures { result ≡ settings_of values }
 {
+    let [mode, depth, flip, discard, limit, palette, columns, rows] = values;
     Settings {
-        mode: values[keys::MODE],
-        depth: values[keys::DEPTH],
-        flip: values[keys::FLIP] == 1,
-        discard: values[keys::DISCARD] == 1,
-        limit: values[keys::LIMIT],
-        palette: values[keys::PALETTE],
-        columns: values[keys::COLUMNS],
-        rows: values[keys::ROWS],
+        mode,
+        depth,
+        flip: flip == 1,
+        discard: discard == 1,
+        limit,
+        palette,
+        columns,
+        rows,
     }
 }
 
 // The eight lines.
-fn read_lines(s: &[u8]) -> Sheet
+fn read_lines(s: &[u8]) -> Option<Sheet>
     ensures { result ≡ lines_in s.now }
 {
     let mut values = [0u32; LINE_COUNT];
-    let mut at: usize = 0;
-    let mut k: usize = 0;
-    while k < LINE_COUNT {
-        let rest = &s[at..];
+    let mut start: usize = 0;
+    for k in 0..LINE_COUNT {
+        let rest = &s[start..];
         let end = line_length(rest);
         if rest.len() <= end {
-            return Sheet::Wrong;
+            return None;
         }
-        let Told::Value(v) = line_says(line_at(k), &rest[..end]) else {
-            return Sheet::Wrong;
-        };
-        values[k] = v;
-        at += end + 1;
-        k += 1;
+        values[k] = line_says(LINES[k], &rest[..end])?;
+        start += end + 1;
     }
-    Sheet::Read(settings(values), at)
+    Some(Sheet {
+        settings: settings(values),
+        start,
+    })
 }
 
 // The eight lines, and exactly the pixels.
-pub fn read_sheet(s: &[u8]) -> Sheet
+pub fn read_sheet(s: &[u8]) -> Option<Sheet>
     ensures { result ≡ sheet_in s.now }
 {
-    match read_lines(s) {
-        Sheet::Read(z, at) => {
-            let pixels = 64 * (z.columns as usize * z.rows as usize);
-            if s.len() - at == pixels {
-                return Sheet::Read(z, at);
-            }
-            return Sheet::Wrong;
-        }
-        Sheet::Wrong => {
-            return Sheet::Wrong;
-        }
+    let sheet = read_lines(s)?;
+    let z = sheet.settings;
+    let pixels = 64 * (z.columns as usize * z.rows as usize);
+    if s.len() - sheet.start == pixels {
+        Some(sheet)
+    } else {
+        None
     }
-}
-
-// Bytes, from a place of out on; where they end.
-fn put(out: &mut [u8], at: usize, s: &[u8]) -> usize
-    requires { at + length s.now ≤ length out.old }
-    ensures { Puts s.now at out.old result out.new }
-{
-    words::put(out, at, s);
-    at + s.len()
-}
-
-fn put_text(out: &mut [u8], at: usize, t: Text) -> usize
-    requires { IsText t × (at + text_most ≤ length out.old) }
-    ensures { Puts (text_in t) at out.old result out.new × (result ≤ at + text_most) }
-{
-    let bytes = t.bytes;
-    let from = t.from;
-    let to = t.to;
-    put(out, at, &bytes[from..to])
-}
-
-// A line: its key, the text and a newline.
-fn put_line(out: &mut [u8], at: usize, k: usize, t: Text) -> usize
-    requires { (k < key_count) × IsText t × (at + line_most ≤ length out.old) }
-    ensures { Puts (line_of k (text_in t)) at out.old result out.new × (result ≤ at + line_most) }
-{
-    let text = put_text(out, at, key(k));
-    let end = put_text(out, text, t);
-    put(out, end, b"\n")
-}
-
-// The report's lines of numbers.
-fn put_numbers(out: &mut [u8], at: usize, values: [u32; NUMBER_COUNT]) -> usize
-    requires { at + numbers_most ≤ length out.old }
-    ensures { Puts (each (length report_keys) (number_line values)) at out.old result out.new × (result ≤ at + numbers_most) }
-{
-    let mut end = at;
-    let mut i: usize = 0;
-    while i < NUMBER_COUNT {
-        end = put_line(out, end, NUMBER_KEYS[i], numeral(values[i]));
-        i += 1;
-    }
-    end
 }
 
 // All the lines of the report.
-fn put_report(out: &mut [u8], z: Settings, p: Picture) -> usize
-    requires { Tellable z p × (report_most ≤ length out.old) }
-    ensures { Puts (report_text z p) 0 out.old result out.new × (result ≤ report_most) }
+fn report_lines(z: Settings, counts: Counts) -> Text
+    requires { Tellable z counts }
+    ensures { result ≡ report_text z (picture_by (Ok counts)) }
 {
-    let end = put_line(out, 0, keys::MODE, name(z.mode));
-    let values = [
-        z.depth,
-        words::flag(z.flip),
-        words::flag(z.discard),
-        z.columns,
-        z.rows,
-        p.tiles,
-        p.discarded,
-        p.tile_bytes as u32,
-        p.map_bytes as u32,
-    ];
-    put_numbers(out, end, values)
+    let mut text = Text::new();
+    text.line(Key::Mode, Mode::at(z.mode).name());
+    text.number(Key::Depth, z.depth);
+    text.number(Key::Flip, u32::from(z.flip));
+    text.number(Key::Discard, u32::from(z.discard));
+    text.number(Key::Columns, z.columns);
+    text.number(Key::Rows, z.rows);
+    text.number(Key::Tiles, counts.tiles);
+    text.number(Key::Discarded, counts.discarded);
+    text.number(Key::TileBytes, counts.tile_bytes as u32);
+    text.number(Key::MapBytes, counts.map_bytes as u32);
+    text
 }
 
-// The whole text, where out has space for it.
-fn tell(number: u32, text: &[u8], out: &mut [u8]) -> Written
-    ensures { Ran number text.now out.old result out.new }
+// The whole text, where out has space for it: the lines, then the tile bytes and the map bytes.
+fn tell(number: u32, text: &Text, tiles: &[u8], map: &[u8], out: &mut [u8]) -> Written
+    requires { (length tiles.now ≤ tile_space) × (length map.now ≤ map_space) }
+    ensures { Ran number (text.now ++ tiles.now ++ map.now) out.old result out.new }
 {
-    if out.len() < text.len() {
-        return words::refused(refusal::OUTPUT);
+    let lines = text.bytes();
+    let tiles_at = lines.len();
+    let map_at = tiles_at + tiles.len();
+    let written = map_at + map.len();
+    if out.len() < written {
+        return Written::from(Err(Refusal::Output));
     }
-    let end = put(out, 0, text);
+    words::put(out, 0, lines);
+    words::put(out, tiles_at, tiles);
+    words::put(out, map_at, map);
     Written {
         refusal: number,
-        written: end,
+        written,
     }
 }
 
-fn refuse(number: u32, out: &mut [u8]) -> Written
-    ensures { Ran number (refused_text number) out.old result out.new }
+fn refuse(refusal: Refusal, out: &mut [u8]) -> Written
+    ensures { Ran (refusal_number refusal) (refused_text (refusal_number refusal)) out.old result out.new }
 {
-    let mut text = [0u8; LINE_MOST];
-    let end = put_line(&mut text, 0, keys::REFUSED, numeral(number));
-    tell(number, &text[..end], out)
-}
-
-// The report, then the tile bytes and the map bytes.
-fn report(z: Settings, p: Picture, tiles: &[u8], map: &[u8], out: &mut [u8]) -> Written
-    requires { Reportable z p tiles.now map.now }
-    ensures { Ran 0 (report_text z p ++ tiles.now ++ map.now) out.old result out.new }
-{
-    let mut text = [0u8; OUT_SPACE];
-    let lines = put_report(&mut text, z, p);
-    let middle = put(&mut text, lines, tiles);
-    let end = put(&mut text, middle, map);
-    tell(0, &text[..end], out)
+    let number = refusal.number();
+    let mut text = Text::new();
+    text.number(Key::Refused, number);
+    tell(number, &text, &[], &[], out)
 }
 
 // What a picture comes to: the report with its bytes, or the refusal.
@@ -437,25 +264,23 @@ fn answer(z: Settings, pixels: &[u8], out: &mut [u8]) -> Written
 {
     let mut tiles = [0u8; TILE_SPACE];
     let mut map = [0u8; MAP_SPACE];
-    let p = picture::convert(z, pixels, &mut tiles, &mut map);
-    if p.refusal != 0 {
-        return refuse(p.refusal, out);
+    match picture::convert(z, pixels, &mut tiles, &mut map) {
+        Ok(counts) => {
+            let text = report_lines(z, counts);
+            let tiles = &tiles[..counts.tile_bytes];
+            let map = &map[..counts.map_bytes];
+            tell(0, &text, tiles, map, out)
+        }
+        Err(refusal) => refuse(refusal, out),
     }
-    let tiled = p.tile_bytes;
-    let mapped = p.map_bytes;
-    report(z, p, &tiles[..tiled], &map[..mapped], out)
 }
 
-// The program on slices: out gets all that the program writes for an input.
+// The program on slices: out gets all that the program writes for an input. The C record, for it tells a number and a written text both, of a refusal too.
 pub fn run(input: &[u8], out: &mut [u8]) -> Written
     ensures { Ran (number_of input.now) (text_of input.now) out.old result out.new }
 {
     match read_sheet(input) {
-        Sheet::Read(z, at) => {
-            return answer(z, &input[at..], out);
-        }
-        Sheet::Wrong => {
-            return refuse(refusal::SETTINGS, out);
-        }
+        Some(sheet) => answer(sheet.settings, &input[sheet.start..], out),
+        None => refuse(Refusal::Settings, out),
     }
 }

@@ -4,19 +4,21 @@ use mathlib.Core.Path.{◌≡◌, refl, sym, ap, ◌∙◌, subst}
 use mathlib.Core.Bool.{Bool, true, false, not, ◌&&◌, ◌||◌}
 use mathlib.Core.List.{List, [], ◌∷◌, ◌++◌, append_assoc}
 use Prim.Native.Nat.{ℕ, zero, suc, ◌+◌, ◌-◌, ◌*◌, ◌/◌, ◌%◌, ◌^◌, ◌<◌, ◌≤◌}
-use native.Mathlib.Nat.{mul_comm, mul_left_comm, mul-add, div-add-mod', mul-le-mul_left, mul-le-mul_right, le_of_mul-le-mul_right, le_trans}
+use native.Mathlib.Nat.{mul-le-mul, mul_comm, mul_left_comm, mul-add, div-add-mod', mul-le-mul_left, mul-le-mul_right, le_of_mul-le-mul_right, le_trans}
 use native.Mathlib.Omega.{arith}
 use lib.Dec.{T, ltb, eqb, ltb→lt, eqb→eq}
 use lib.ListN.{length, get_or}
 use lib.Pow.{pow_mono}
 use borrow.Author.Tests.{lt-ltb, le-ltb, ltb-false, eq-eqb, ne_eqb, not-false}
 use Rattle.words.specs.Answers.{◌when◌, first_applying}
+use Rattle.words.specs.Refusals.{refusal_number}
+use Rattle.words.specs.declared.refusal.Refusal.{Refusal}
 use Rattle.words.proofs.Answers.{all-passed, not-given, first-given, last-given, when-refused}
 use Rattle.words.proofs.Items.{neither_left, neither_right}
 use Rattle.words.proofs.Loops.{both_left, both_right}
 use Rattle.words.proofs.Order.{first-append, next-given}
 use Rattle.mode.specs.Table.{row}
-use Rattle.mapentry.specs.Entry.{misfit_of}
+use Rattle.mapentry.specs.Entry.{misfit_of, misfit_says}
 use Rattle.mapentry.proofs.Laws.{small, fitting, no-misfit}
 use Rattle.tileset.specs.Sets.{room_under}
 use Rattle.tileset.proofs.Says.{room_within}
@@ -26,12 +28,17 @@ use Rattle.picture.specs.Continuing.{goes_on_checks}
 use Rattle.picture.specs.Inner.{IsPicture, CanGoOn, goes_on_says}
 use Rattle.picture.specs.declared.Settings.{Settings}
 use Rattle.picture.proofs.Checks.{IsSize, size_of, few-tiles}
+use Rattle.words.proofs.Refusing.{refusal-not-done}
 use Rattle.strip.specs.Strips.{settings_of, rows_of, run_at, no_run, started, settings_checks, palette_check, start_says, row_length, strip_of, written_by, record_checks, length_checks, strip_checks, take_says, end_says, ended}
-use Rattle.strip.specs.Inner.{settings_says, length_says, strip_says, counts_more}
+use Rattle.strip.specs.Inner.{settings_says, HasRows, length_says, strip_says, counts_more}
 use Rattle.strip.specs.declared.Run.{Run}
 use Rattle.strip.specs.declared.RunAnswer.{RunAnswer}
 
 -- ---- settings
+
+-- the palette's check, by the mode as a value
+abbrev pub palette_for : ℕ → Settings → ℕ
+palette_for m z = misfit_says (misfit_of m (entry_as 0 z.palette false false))
 
 abbrev answered : ℕ → Run → RunAnswer
 answered n r = record { refusal = n; run = r }
@@ -50,12 +57,29 @@ module _ (z : Settings) where
   pub settings-size : (n : ℕ) → n ≡ size → (n ≡ 0 → ⊥) → n ≡ settings_says z
   settings-size n e h = first-given n (5 when lacks ∷ []) e h ∙ sym settings-is
 
+  pub settings_refused : (e : Refusal) → refusal_number e ≡ size → refusal_number e ≡ settings_says z
+  settings_refused e is = settings-size (refusal_number e) is (refusal-not-done e)
+
   module _ (s : size ≡ 0) where
+    pub size_mode : z.mode < 16
+    size_mode = (size_of z.mode z.depth z.columns z.rows s).mode
+
     pub settings-5 : lacks ≡ true → 5 ≡ settings_says z
     settings-5 e = sym (settings-is ∙ next-given (5 when lacks ∷ []) s ∙ ap (λ (b : Bool). first_applying (5 when b ∷ [])) e)
 
     pub settings-0 : lacks ≡ false → 0 ≡ settings_says z
     settings-0 e = sym (settings-is ∙ next-given (5 when lacks ∷ []) s ∙ ap (λ (b : Bool). first_applying (5 when b ∷ [])) e)
+
+    -- by the mode as a value
+    module _ {m : ℕ} {b : Bool} (is : m ≡ z.mode) (e : b ≡ (z.flip && eqb (row m).flips 0)) where
+      lacks-is : lacks ≡ b
+      lacks-is = ap (λ (k : ℕ). z.flip && eqb (row k).flips 0) (sym is) ∙ sym e
+
+      pub lacks_flips : b ≡ true → 5 ≡ settings_says z
+      lacks_flips t = settings-5 (lacks-is ∙ t)
+
+      pub has_flips : b ≡ false → 0 ≡ settings_says z
+      has_flips t = settings-0 (lacks-is ∙ t)
 
   -- once they passed
   module _ (e : settings_says z ≡ 0) where
@@ -67,6 +91,12 @@ module _ (z : Settings) where
 
     pub settings-sized : IsSize z.mode z.depth z.columns z.rows
     settings-sized = size_of z.mode z.depth z.columns z.rows settings-parts.0
+
+    pub settings_mode : z.mode < 16
+    settings_mode = settings-sized.mode
+
+    pub settings_deep : (z.mode < 16) × (0 < z.depth) × (z.depth ≤ 8)
+    settings_deep = let s = settings-sized in (s.mode, s.shallow, s.deep)
 
     -- rows of the picture are a picture, where the palette index fits
     pub rows-picture : palette_check z ≡ 0 → (n : ℕ) → n ≤ z.rows → {len : ℕ} → len ≡ 64 * (z.columns * n) → IsPicture (rows_of z n) len
@@ -96,6 +126,12 @@ module _ (z : Settings) where
 
   pub start-palette : settings_says z ≡ 0 → palette_check z ≡ start_says z
   start-palette e = last-given (palette_check z) ∙ sym (start_is ∙ next-given (palette_check z ∷ []) e)
+
+  pub start_refused : (e : Refusal) → refusal_number e ≡ settings_says z → refusal_number e ≡ start_says z
+  start_refused e is = start-settings (refusal_number e) is (refusal-not-done e)
+
+  pub start_told : {n m : ℕ} → settings_says z ≡ 0 → m ≡ z.mode → n ≡ palette_for m z → n ≡ start_says z
+  start_told e is told = told ∙ ap (λ (k : ℕ). palette_for k z) is ∙ start-palette e
 
   pub start-passed : start_says z ≡ 0 → (settings_says z ≡ 0) × (palette_check z ≡ 0)
   start-passed e =
@@ -175,12 +211,48 @@ module _ (r : Run) (len map_space : ℕ) where
         pub length-misfit : (n : ℕ) → n ≡ palette_check (settings_of r) → (n ≡ 0 → ⊥) → n ≡ length_says r len map_space
         length-misfit n e h = first-given n from-11 e h ∙ sym to-16
 
+        pub length_refused : (e : Refusal) {m : ℕ} → m ≡ r.mode → refusal_number e ≡ palette_for m (settings_of r) → refusal_number e ≡ length_says r len map_space
+        length_refused e is told = length-misfit (refusal_number e) (told ∙ ap (λ (k : ℕ). palette_for k (settings_of r)) is) (refusal-not-done e)
+
         module _ (f : palette_check (settings_of r) ≡ 0) where
           pub length-11 : map_space < places (settings_of r) * (row r.mode).entry → 11 ≡ length_says r len map_space
           length-11 h = sym (to-16 ∙ next-given from-11 f ∙ ap (λ (b : Bool). first_applying (11 when b ∷ [])) (lt-ltb map_space (places (settings_of r) * (row r.mode).entry) h))
 
           pub length-0 : places (settings_of r) * (row r.mode).entry ≤ map_space → 0 ≡ length_says r len map_space
           length-0 h = sym (to-16 ∙ next-given from-11 f ∙ ap (λ (b : Bool). first_applying (11 when b ∷ [])) (le-ltb map_space (places (settings_of r) * (row r.mode).entry) h))
+
+        -- by the mode as a value
+        module _ {m k : ℕ} (is : m ≡ r.mode) (fits : palette_for m (settings_of r) ≡ 0) (entry : k ≡ (row m).entry) where
+          palette-is : palette_check (settings_of r) ≡ 0
+          palette-is = ap (λ (i : ℕ). palette_for i (settings_of r)) (sym is) ∙ fits
+
+          entry-is : k ≡ (row r.mode).entry
+          entry-is = entry ∙ ap (λ (i : ℕ). (row i).entry) is
+
+          pub length_short : map_space < places (settings_of r) * k → 11 ≡ length_says r len map_space
+          length_short h = length-11 palette-is (subst (λ (n : ℕ). map_space < places (settings_of r) * n) entry-is h)
+
+          pub length_fine : places (settings_of r) * k ≤ map_space → 0 ≡ length_says r len map_space
+          length_fine h = length-0 palette-is (subst (λ (n : ℕ). places (settings_of r) * n ≤ map_space) entry-is h)
+
+-- the sizes that a record's own checks leave
+module _ (r : Run) (fine : settings_says (settings_of r) ≡ 0) where
+  pub run_sized : IsSize r.mode r.depth r.columns r.rows
+  run_sized = settings-sized (settings_of r) fine
+
+  pub places_few : r.columns * r.rows ≤ 4096
+  places_few = few-tiles run_sized
+
+  pub row_few : 64 * r.columns ≤ 4096
+  row_few = omega (arith, run_sized.narrow)
+
+  pub left_few : (r.rows - r.taken) * (64 * r.columns) ≤ 64 * 4096
+  left_few = mul-le-mul {n₁ = r.rows - r.taken} {m₁ = 64 * r.columns} {n₂ = 64} {m₂ = 4096} (omega (arith, run_sized.low)) row_few
+
+  pub entries_few : {m k : ℕ} → m ≡ r.mode → k ≡ (row m).entry → r.columns * r.rows * k ≤ 4096 * 2
+  entries_few {m} {k} is e =
+      mul-le-mul {n₁ = r.columns * r.rows} {m₁ = k} {n₂ = 4096} {m₂ = 2} (few-tiles run_sized)
+      (omega (arith, e, is, (small r.mode run_sized.mode).entry, ap (λ (i : ℕ). (row i).entry) is))
 
 -- ---- a strip
 
@@ -205,6 +277,27 @@ module _ (r : Run) (len tile_space map_space : ℕ) where
     pub strip-length : more ≡ false → length_says r len map_space ≡ strip_says r len tile_space map_space
     unfolding length_says
     strip-length e = sym (to-6 ∙ ap (λ (b : Bool). first_applying (6 when b ∷ length_checks r len map_space)) e)
+
+  -- by the settings as a value
+  module _ {y : Settings} (is : y ≡ settings_of r) where
+    pub strip_refused : (e : Refusal) → refusal_number e ≡ settings_says y → refusal_number e ≡ strip_says r len tile_space map_space
+    strip_refused e told = strip-settings (refusal_number e) (told ∙ ap settings_says is) (refusal-not-done e)
+
+    module _ (s : settings_says y ≡ 0) {n : ℕ} {b : Bool} (room : n ≡ picture_room y tile_space) (e : b ≡ counts_more r n) where
+      more-is : more ≡ b
+      more-is = sym (e ∙ ap (counts_more r) (room ∙ ap (λ (z : Settings). picture_room z tile_space) is))
+
+      fine-is : settings_says (settings_of r) ≡ 0
+      fine-is = ap settings_says (sym is) ∙ s
+
+      pub strip_full : b ≡ true → 6 ≡ strip_says r len tile_space map_space
+      strip_full t = strip-6 fine-is (more-is ∙ t)
+
+      pub strip_told : b ≡ false → {k : ℕ} → k ≡ length_says r len map_space → k ≡ strip_says r len tile_space map_space
+      strip_told t told = told ∙ strip-length fine-is (more-is ∙ t)
+
+      pub strip_rows : b ≡ false → HasRows r
+      strip_rows t = record { settings = fine-is; taken = (counts-fit r (picture_room (settings_of r) tile_space) (more-is ∙ t)).1 }
 
 -- a strip that passed them
 pub record IsStrip (r : Run) (len tile_space map_space : ℕ) : Type 0 where
@@ -354,6 +447,29 @@ module _ (r : Run) where
           last-given (palette_check (settings_of r))
           ∙ sym (end-to-19 ∙ ap (λ (b : Bool). first_applying (19 when b ∷ palette_check (settings_of r) ∷ [])) (le-ltb r.taken r.rows h))
 
+  pub end_settings_refused : {y : Settings} → y ≡ settings_of r → (e : Refusal) → refusal_number e ≡ settings_says y → refusal_number e ≡ end_says r
+  end_settings_refused is e told = end-settings (refusal_number e) (told ∙ ap settings_says is) (refusal-not-done e)
+
+  pub run_fine : {y : Settings} → y ≡ settings_of r → settings_says y ≡ 0 → settings_says (settings_of r) ≡ 0
+  run_fine is s = ap settings_says (sym is) ∙ s
+
+  -- by the mode as a value
+  module _ (s : settings_says (settings_of r) ≡ 0) {m most n : ℕ} {b : Bool} (is : m ≡ r.mode) (top : most ≡ 2 ^ (row m).tile)
+      (room : n ≡ room_under r.limit most []) (e : b ≡ counts_more r n) where
+    more-at-end : counts_more r all ≡ b
+    more-at-end =
+        sym (e ∙ ap (counts_more r) (room ∙ ap (λ (k : ℕ). room_under r.limit k []) (top ∙ ap (λ (k : ℕ). 2 ^ (row k).tile) is)))
+
+    pub end_full : b ≡ true → 6 ≡ end_says r
+    end_full t = end-6 s (more-at-end ∙ t)
+
+    module _ (t : b ≡ false) where
+      pub end_early : r.taken < r.rows → 19 ≡ end_says r
+      end_early = end-early s (more-at-end ∙ t)
+
+      pub end_told : r.rows ≤ r.taken → {k : ℕ} → k ≡ palette_for m (settings_of r) → k ≡ end_says r
+      end_told h told = told ∙ ap (λ (k : ℕ). palette_for k (settings_of r)) is ∙ end-palette s (more-at-end ∙ t) h
+
   -- once they passed
   module _ (e : end_says r ≡ 0) where
     end-passed : (k : ℕ) → get_or (settings_says (settings_of r) ∷ 6 when counts_more r all ∷ end-19) k 0 ≡ 0
@@ -371,6 +487,35 @@ module _ (r : Run) where
         let named = (room_within r.limit (2 ^ (row r.mode).tile) []).first in
         omega (arith, end-counts.0, named, pow_mono {i = (row r.mode).tile} {j = 12} (small r.mode m).tile)
 
+    pub end_mode : r.mode < 16
+    end_mode = (run_sized r end-sized).mode
+
+    pub end_deep : r.depth ≤ 8
+    end_deep = (run_sized r end-sized).deep
+
+    pub end_places : r.columns * r.rows ≤ 4096
+    end_places = places_few r end-sized
+
+    pub end_entries : {m k : ℕ} → m ≡ r.mode → k ≡ (row m).entry → r.columns * r.rows * k ≤ 4096 * 2
+    end_entries = entries_few r end-sized
+
+    pub end_bytes : r.tiles * (r.depth * 8) ≤ 4096 * 64
+    end_bytes =
+        mul-le-mul {n₁ = r.tiles} {m₁ = r.depth * 8} {n₂ = 4096} {m₂ = 64} end-few (omega (arith, end_deep))
+
   pub end_refused : (n : ℕ) → n ≡ end_says r → (n ≡ 0 → ⊥) → pictured n 0 0 0 0 ≡ ended (end_says r) r
   end_refused zero e h = absurd (h refl)
   end_refused (suc n) e h = ap (λ (k : ℕ). ended k r) e
+
+-- what each check is proved by
+pub ruleset settings_rules = (settings_refused, size_mode, lacks_flips, has_flips)
+
+pub ruleset start_rules = (start_refused, settings_mode, start_told)
+
+pub ruleset length_rules = (length-19, length_none, length-odd, length_refused, length_short, length_fine, settings_mode, row_few, left_few, places_few, entries_few)
+
+pub ruleset strip_rules = (strip_refused, settings_deep, strip_full, strip_told, strip_rows)
+
+pub ruleset end_rules = (end_settings_refused, run_fine, settings_mode, end_full, end_early, end_told)
+
+pub ruleset ended_rules = (end_mode, end_deep, end_places, end_entries, end_bytes)

@@ -2,16 +2,19 @@
 #![tactic(auto)]
 
 ghost use Rattle.std.specs.Prelude.{◌≡◌, length};
-ghost use Rattle.strip.specs.Strips.{settings_of, rows_of, run_at, no_run, started, start_says, take_says, Takes, end_says, ended};
+ghost use Rattle.words.specs.Refusals.{answered};
+ghost use Rattle.picture.specs.Converting.{picture_by};
+ghost use Rattle.strip.specs.Strips.{settings_of, started, start_says, run_answer_by, take_says, Takes, step_by, end_says, ended};
 ghost use Rattle.strip.specs.Inner.{settings_says, HasRows, length_says, strip_says, counts_more};
 
 use mode::Mode;
-use picture::{Picture, Settings};
-use words::refusal;
+use picture::{Counts, Settings};
+use words::refusal::Refusal;
 
 // A run: the settings of its picture, the tile rows that have come, and the tiles stored and discarded so far. A caller keeps it between strips.
+// Its fields stand beside each other, not as a `Settings` with three more, for C has them so.
 #[repr(C)]
-#[derive(Clone, Copy)]
+#[derive(Clone, Copy, Debug, Default, PartialEq, Eq)]
 pub struct Run {
     pub mode: u32,
     pub depth: u32,
@@ -26,56 +29,91 @@ pub struct Run {
     pub discarded: u32,
 }
 
-// What a start answers.
+// What a host is told of a start.
 #[repr(C)]
-#[derive(Clone, Copy)]
+#[derive(Clone, Copy, Debug, PartialEq, Eq)]
 pub struct RunAnswer {
     pub refusal: u32,
     pub run: Run,
 }
 
-// What a strip answers, and the run after it.
-#[derive(Clone, Copy)]
+impl From<Result<Run, Refusal>> for RunAnswer {
+    ghost from_gives = { λ r a. a ≡ run_answer_by r };
+
+    fn from(answer: Result<Run, Refusal>) -> RunAnswer {
+        match answer {
+            Ok(run) => RunAnswer { refusal: 0, run },
+            Err(refusal) => RunAnswer {
+                refusal: refusal.number(),
+                run: Run::default(),
+            },
+        }
+    }
+}
+
+// What an accepted strip answers, and the run after it.
+#[derive(Clone, Copy, Debug, PartialEq, Eq)]
 pub struct Step {
-    pub picture: Picture,
+    pub counts: Counts,
     pub run: Run,
 }
 
-fn settings_of(run: Run) -> Settings
-    ensures { result ≡ settings_of run }
-{
-    Settings {
-        mode: run.mode,
-        depth: run.depth,
-        flip: run.flip,
-        discard: run.discard,
-        limit: run.limit,
-        palette: run.palette,
-        columns: run.columns,
-        rows: run.rows,
+impl Run {
+    // The settings of its picture.
+    fn settings(self) -> Settings
+        ensures { result ≡ settings_of self }
+    {
+        Settings {
+            mode: self.mode,
+            depth: self.depth,
+            flip: self.flip,
+            discard: self.discard,
+            limit: self.limit,
+            palette: self.palette,
+            columns: self.columns,
+            rows: self.rows,
+        }
+    }
+
+    // Whether the record counts more tiles than its room, or more rows than its picture.
+    fn counts_more(self, room: usize) -> bool
+        ensures { result ≡ counts_more self room }
+    {
+        room < self.tiles as usize || self.rows < self.taken
     }
 }
 
-// The same picture with so many rows.
-fn rows_of(settings: Settings, rows: u32) -> Settings
-    ensures { result ≡ rows_of settings rows }
+// How the checks of all three calls begin.
+#[tactic(auto, using(crate::proofs::Says::settings_rules))]
+fn settings_say(settings: Settings) -> Result<(), Refusal>
+    ensures { answered result ≡ settings_says settings }
 {
-    Settings {
-        mode: settings.mode,
-        depth: settings.depth,
-        flip: settings.flip,
-        discard: settings.discard,
-        limit: settings.limit,
-        palette: settings.palette,
-        columns: settings.columns,
-        rows,
+    picture::size_says(
+        settings.mode,
+        settings.depth,
+        settings.columns,
+        settings.rows,
+    )?;
+    if picture::lacks_flips(Mode::at(settings.mode), settings.flip) {
+        return Err(Refusal::Flips);
     }
+    Ok(())
 }
 
-fn run_at(settings: Settings, taken: u32, tiles: u32, discarded: u32) -> Run
-    ensures { result ≡ run_at settings taken tiles discarded }
+#[tactic(auto, using(crate::proofs::Says::start_rules))]
+fn start_says(settings: Settings) -> Result<(), Refusal>
+    ensures { answered result ≡ start_says settings }
 {
-    Run {
+    settings_say(settings)?;
+    picture::palette_says(Mode::at(settings.mode), settings.palette)
+}
+
+// Starts a run.
+pub fn start(settings: Settings) -> Result<Run, Refusal>
+    ensures { run_answer_by result ≡ started (start_says settings) settings }
+{
+    start_says(settings)?;
+    Ok(Run {
         mode: settings.mode,
         depth: settings.depth,
         flip: settings.flip,
@@ -84,190 +122,103 @@ fn run_at(settings: Settings, taken: u32, tiles: u32, discarded: u32) -> Run
         palette: settings.palette,
         columns: settings.columns,
         rows: settings.rows,
-        taken,
-        tiles,
-        discarded,
-    }
-}
-
-fn no_run() -> Run
-    ensures { result ≡ no_run }
-{
-    Run {
-        mode: 0,
-        depth: 0,
-        flip: false,
-        discard: false,
-        limit: 0,
-        palette: 0,
-        columns: 0,
-        rows: 0,
         taken: 0,
         tiles: 0,
         discarded: 0,
-    }
-}
-
-// How the checks of all three calls begin.
-fn settings_say(settings: Settings) -> u32
-    ensures { result ≡ settings_says settings }
-{
-    let number = picture::size_says(
-        settings.mode,
-        settings.depth,
-        settings.columns,
-        settings.rows,
-    );
-    if number != 0 {
-        return number;
-    }
-    if picture::lacks_flips(Mode(settings.mode), settings.flip) {
-        return refusal::FLIPS;
-    }
-    0
-}
-
-fn start_says(settings: Settings) -> u32
-    ensures { result ≡ start_says settings }
-{
-    let number = settings_say(settings);
-    if number != 0 {
-        return number;
-    }
-    picture::palette_says(Mode(settings.mode), settings.palette)
-}
-
-// Starts a run.
-pub fn start(settings: Settings) -> RunAnswer
-    ensures { result ≡ started (start_says settings) settings }
-{
-    let number = start_says(settings);
-    if number != 0 {
-        return RunAnswer {
-            refusal: number,
-            run: no_run(),
-        };
-    }
-    RunAnswer {
-        refusal: 0,
-        run: run_at(settings, 0, 0, 0),
-    }
-}
-
-// Whether the record counts more tiles than its room, or more rows than its picture.
-fn counts_more(run: Run, room: usize) -> bool
-    ensures { result ≡ counts_more run room }
-{
-    if room < run.tiles as usize {
-        return true;
-    }
-    run.rows < run.taken
+    })
 }
 
 // The checks of a strip's length and of the map buffer's.
-fn length_says(run: Run, len: usize, space: usize) -> u32
+#[tactic(auto, using(crate::proofs::Says::length_rules))]
+fn length_says(run: Run, len: usize, space: usize) -> Result<(), Refusal>
     requires { HasRows run }
-    ensures { result ≡ length_says run len space }
+    ensures { answered result ≡ length_says run len space }
 {
     let row = (64 * run.columns) as usize;
     if (run.rows - run.taken) as usize * row < len {
-        return refusal::ROWS;
+        return Err(Refusal::Rows);
     }
     if len == 0 {
-        return refusal::LENGTH;
+        return Err(Refusal::Length);
     }
     if len % row != 0 {
-        return refusal::LENGTH;
+        return Err(Refusal::Length);
     }
-    let m = Mode(run.mode);
-    let misfit = picture::palette_says(m, run.palette);
-    if misfit != 0 {
-        return misfit;
-    }
+    let m = Mode::at(run.mode);
+    picture::palette_says(m, run.palette)?;
     if space < (run.columns * run.rows) as usize * mapentry::mapentry_size(m) {
-        return refusal::OUTPUT;
+        return Err(Refusal::Output);
     }
-    0
+    Ok(())
 }
 
 // Every check of a strip that counts no tiles, over the record as it comes: a caller may have altered it.
-fn strip_says(run: Run, len: usize, space: usize, mapspace: usize) -> u32
-    ensures { result ≡ strip_says run len space mapspace }
+#[tactic(auto, using(crate::proofs::Says::strip_rules))]
+fn strip_says(run: Run, len: usize, space: usize, mapspace: usize) -> Result<(), Refusal>
+    ensures { answered result ≡ strip_says run len space mapspace }
 {
-    let settings = settings_of(run);
-    let number = settings_say(settings);
-    if number != 0 {
-        return number;
-    }
-    if counts_more(run, picture::picture_room(settings, space)) {
-        return refusal::COUNT;
+    let settings = run.settings();
+    settings_say(settings)?;
+    if run.counts_more(picture::picture_room(settings, space)) {
+        return Err(Refusal::Count);
     }
     length_says(run, len, mapspace)
 }
 
-// Takes a strip: the picture goes on by its rows.
-pub fn take(run: Run, pixels: &[u8], tiles: &mut [u8], map: &mut [u8]) -> Step
-    ensures { Takes (take_says run pixels.now tiles.old (length map.old)) run pixels.now tiles.old map.old result tiles.new map.new }
+// Takes a strip: the picture goes on by its rows. A refused strip has no step: the record stays as it was.
+#[tactic(auto, using(crate::proofs::Taking::take_rules))]
+pub fn take(run: Run, pixels: &[u8], tiles: &mut [u8], map: &mut [u8]) -> Result<Step, Refusal>
+    ensures { Takes (take_says run pixels.now tiles.old (length map.old)) run pixels.now tiles.old map.old (step_by run result) tiles.new map.new }
 {
-    let number = strip_says(run, pixels.len(), tiles.len(), map.len());
-    if number != 0 {
-        return Step {
-            picture: picture::no_picture(number),
-            run,
-        };
-    }
-    let settings = settings_of(run);
+    strip_says(run, pixels.len(), tiles.len(), map.len())?;
     let rows = (pixels.len() / (64 * run.columns) as usize) as u32;
-    let told = picture::go_on(
-        rows_of(settings, rows),
+    let settings = run.settings();
+    let counts = picture::go_on(
+        Settings { rows, ..settings },
         pixels,
         run.tiles as usize,
         run.discarded,
         (run.taken * run.columns) as usize,
         tiles,
         map,
-    );
-    let next = run_at(settings, run.taken + rows, told.tiles, told.discarded);
-    if told.refusal != 0 {
-        return Step { picture: told, run };
-    }
-    Step {
-        picture: told,
-        run: next,
-    }
+    )?;
+    Ok(Step {
+        counts,
+        run: Run {
+            taken: run.taken + rows,
+            tiles: counts.tiles,
+            discarded: counts.discarded,
+            ..run
+        },
+    })
 }
 
-fn end_says(run: Run) -> u32
-    ensures { result ≡ end_says run }
+#[tactic(auto, using(crate::proofs::Says::end_rules))]
+fn end_says(run: Run) -> Result<(), Refusal>
+    ensures { answered result ≡ end_says run }
 {
-    let settings = settings_of(run);
-    let number = settings_say(settings);
-    if number != 0 {
-        return number;
-    }
-    let m = Mode(run.mode);
-    if counts_more(run, tileset::room(run.limit, picture::most_tiles(m))) {
-        return refusal::COUNT;
+    settings_say(run.settings())?;
+    let m = Mode::at(run.mode);
+    if run.counts_more(tileset::room(run.limit, picture::most_tiles(m))) {
+        return Err(Refusal::Count);
     }
     if run.taken < run.rows {
-        return refusal::ROWS;
+        return Err(Refusal::Rows);
     }
     picture::palette_says(m, run.palette)
 }
 
 // Ends a run: the whole picture's counts and lengths.
-pub fn end(run: Run) -> Picture
-    ensures { result ≡ ended (end_says run) run }
+#[tactic(auto, using(crate::proofs::Says::ended_rules))]
+pub fn end(run: Run) -> Result<Counts, Refusal>
+    ensures { picture_by result ≡ ended (end_says run) run }
 {
-    let number = end_says(run);
-    if number != 0 {
-        return picture::no_picture(number);
-    }
-    Picture {
-        refusal: 0,
+    end_says(run)?;
+    let entry = mapentry::mapentry_size(Mode::at(run.mode));
+    Ok(Counts {
         tiles: run.tiles,
         discarded: run.discarded,
         tile_bytes: run.tiles as usize * (run.depth * 8) as usize,
-        map_bytes: (run.columns * run.rows) as usize * mapentry::mapentry_size(Mode(run.mode)),
-    }
+        map_bytes: (run.columns * run.rows) as usize * entry,
+    })
 }

@@ -7,15 +7,14 @@ use Prim.Native.Nat.{ℕ, zero, suc, ◌+◌, ◌*◌, ◌/◌, ◌%◌, ◌<◌
 use native.Mathlib.Omega.{arith}
 use lib.Dec.{T, ltb, eqb, ltb→lt, eqb→eq}
 use lib.ListN.{get_or}
-use lib.Pow.{pow_pos}
 use Rattle.words.specs.Inner.{word_at, byte_in, all}
-use Rattle.words.proofs.Eights.{word_small, word-byte-at}
+use Rattle.words.proofs.Eights.{word-byte-at}
 use Rattle.words.proofs.Items.{item-get_or, number_at}
 use Rattle.words.proofs.Loops.{both_left, both_right, all-at}
 use Rattle.tile.specs.Bits.{bit_of, from_bits}
 use Rattle.tile.specs.Layout.{element}
 use Rattle.tile.specs.Packings.{sprite_byte, sprite}
-use Rattle.tile.specs.Inner.{is_packing, byte_of, Small, word_from, HasWord, quarter, planes_at, quarter_words, cell_words}
+use Rattle.tile.specs.Inner.{is_packing, byte_of, word_from, HasWord, quarter, planes_at, quarter_words, cell_words}
 use Rattle.tile.specs.declared.Packing.TheVariants.{Sprite}
 use Rattle.tile.proofs.Bits.{bits-same}
 use Rattle.tile.proofs.Packings.{sizes-at, cell_from}
@@ -31,13 +30,6 @@ module _ (xs : List ℕ) (small : (i : ℕ) → get_or xs i 0 < 256) where
   plane-is at (suc (suc zero)) l = refl
   plane-is at (suc (suc (suc zero))) l = refl
   plane-is at (suc (suc (suc (suc p)))) l = absurd (omega arith)
-
-  pub planes-small : (at : ℕ) → Small (planes_at xs at)
-  planes-small at zero = word_small xs small false at
-  planes-small at (suc zero) = word_small xs small false (at + 32)
-  planes-small at (suc (suc zero)) = word_small xs small false (at + 64)
-  planes-small at (suc (suc (suc zero))) = word_small xs small false (at + 96)
-  planes-small at (suc (suc (suc (suc i)))) = pow_pos 64
 
   byte-is : (at p k : ℕ) → p < 4 → k < 8 → byte_of (planes_at xs at) (p * 8 + k) ≡ get_or xs (at + p * 32 + k) 0
   byte-is at p k lp lk =

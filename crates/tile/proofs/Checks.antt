@@ -1,38 +1,30 @@
 -- What the checks of packing and unpacking say, where they pass and where one does not; and how a packed tile meets the promise.
 -- Assumes nothing.
-use mathlib.Core.Path.{◌≡◌, refl, sym, ap, ◌∙◌, subst}
-use mathlib.Core.Bool.{Bool, true, false, not}
-use mathlib.Core.List.{List, [], ◌∷◌, ◌++◌}
+use mathlib.Core.Path.{◌≡◌, refl, sym, ap, ap₂, ◌∙◌, subst}
+use mathlib.Core.Bool.{Bool, true, false, not, ◌||◌}
+use mathlib.Core.List.{List, [], ◌∷◌}
 use Prim.Native.Nat.{ℕ, zero, suc, ◌*◌, ◌/◌, ◌^◌, ◌<◌, ◌≤◌}
 use native.Mathlib.Omega.{arith}
-use lib.Dec.{T, ltb, eqb}
+use lib.Dec.{T, ltb, leb, eqb}
 use lib.ListN.{length, get_or, take, drop}
-use lib.Seq.{sets, take_all}
+use lib.Seq.{sets, take_all, length-take-le, get_or-take}
 use borrow.Author.Tests.{lt-leb, ltb-false, leb-false, eqb-true, not-false, lt-ltb, le-ltb, eq-eqb, ne_eqb}
 use Rattle.words.specs.Answers.{◌when◌, first_applying, overwrite}
 use Rattle.words.specs.Loops.{some}
-use Rattle.words.proofs.Answers.{all-passed, not-given, first-given}
+use Rattle.words.specs.Refusals.{refusal_number}
+use Rattle.words.specs.declared.refusal.Refusal.{Refusal}
+use Rattle.words.proofs.Answers.{all-passed, not-given}
 use Rattle.words.proofs.Items.{none-at}
 use Rattle.words.proofs.Loops.{sets-front}
-use Rattle.words.proofs.Order.{first-append}
+use Rattle.words.proofs.Refusing.{refused_first}
+use Rattle.words.proofs.Order.{checks-given, checks-after, checks-first}
 use Rattle.mode.specs.Table.{has_depth}
 use Rattle.tile.specs.Packings.{layout_in}
 use Rattle.tile.specs.Inner.{pixel_count, byte_count, packed_in, unpacked_in, Packs, Unpacks}
 use Rattle.tile.specs.Tile.{packing_of, is_native, too_large, tile_checks, pack_checks, unpack_checks, tile_says, pack_says, unpack_says, packed, unpacked}
 use Rattle.tile.specs.declared.Packing.{Packing}
 use Rattle.tile.proofs.RoundTrip.{length-spread}
-use Rattle.tile.proofs.Native.{Native, fitting}
-
--- ---- checks after checks: the first number that is given, or what those after say
-
-first_of : (ns ms : List ℕ) → (first_applying ns ≡ 0 → ⊥) → first_applying ns ≡ first_applying (ns ++ ms)
-first_of ns ms h = first-given (first_applying ns) ms refl h ∙ sym (first-append ns ms)
-
-rest_of : (ns ms : List ℕ) → first_applying ns ≡ 0 → first_applying (ns ++ ms) ≡ first_applying ms
-rest_of ns ms z = first-append ns ms ∙ rw z
-
-all_first : (ns ms : List ℕ) → first_applying (ns ++ ms) ≡ 0 → first_applying ns ≡ 0
-all_first ns ms z = all-passed (first_applying ns ∷ ms) (sym (first-append ns ms) ∙ z) 0
+use Rattle.tile.proofs.Native.{Native, Fitting, fitting}
 
 -- a check that did not apply to what was denied
 passes : (n : ℕ) (b : Bool) → suc n when not b ≡ 0 → b ≡ true
@@ -42,6 +34,15 @@ passes n b z = not-false b (not-given n (not b) z)
 pub all_small : (n d : ℕ) (pixels : List ℕ) → ((i : ℕ) → i < n → get_or pixels i 0 < 2 ^ d) → some n (too_large d pixels) ≡ false
 all_small zero d pixels h = refl
 all_small (suc n) d pixels h = rw (all_small n d pixels (λ i l. h i (omega arith)), lt-leb (2 ^ d) (get_or pixels n 0) (h n (omega arith)))
+
+-- what is asked of the first pixels is asked of these alone
+some-same : (n : ℕ) (f g : ℕ → Bool) → ((i : ℕ) → i < n → f i ≡ g i) → some n f ≡ some n g
+some-same zero f g h = refl
+some-same (suc n) f g h = ap₂ (λ (a b : Bool). a || b) (some-same n f g (λ i l. h i (omega arith))) (h n (omega arith))
+
+pub large-front : (n d : ℕ) (pixels : List ℕ) → n ≤ length pixels → some (length (take n pixels)) (too_large d (take n pixels)) ≡ some n (too_large d pixels)
+large-front n d pixels l =
+    rw (length-take-le n pixels l) (some-same n (too_large d (take n pixels)) (too_large d pixels) (λ i k. ap (leb (2 ^ d)) (get_or-take n pixels i 0 k)))
 
 -- ---- the tile
 
@@ -55,6 +56,9 @@ native-of m d w h z =
       size = subst T (sym (passes 3 (is_native m w h) (check 2))) tt;
     }
 
+pub fitting-of : {m d w h : ℕ} → tile_says m d w h ≡ 0 → Fitting m d w h
+fitting-of {m} {d} {w} {h} z = fitting (native-of m d w h z)
+
 -- ---- packing
 
 module _ (m d w h : ℕ) (pixels : List ℕ) (space : ℕ) where
@@ -63,12 +67,16 @@ module _ (m d w h : ℕ) (pixels : List ℕ) (space : ℕ) where
 
   pub pack-first : (n : ℕ) → n ≡ tile_says m d w h → (n ≡ 0 → ⊥) → n ≡ pack_says m d w h pixels space
   unfolding tile_says pack_says
-  pack-first n e f = e ∙ first_of (tile_checks m d w h) pack_rest (λ z. f (e ∙ z))
+  pack-first = checks-given (tile_checks m d w h) pack_rest
+
+  pub pack-refused : (e : Refusal) → refusal_number e ≡ tile_says m d w h → refusal_number e ≡ pack_says m d w h pixels space
+  unfolding tile_says pack_says
+  pack-refused = refused_first (tile_checks m d w h) pack_rest
 
   module _ (z : tile_says m d w h ≡ 0) where
     pack-rest : pack_says m d w h pixels space ≡ first_applying pack_rest
     unfolding tile_says pack_says
-    pack-rest = rest_of (tile_checks m d w h) pack_rest z
+    pack-rest = checks-after (tile_checks m d w h) pack_rest z
 
     pub pack-7 : (length pixels ≡ w * h → ⊥) → 7 ≡ pack_says m d w h pixels space
     pack-7 f = rw (pack-rest, ne_eqb _ _ f)
@@ -81,6 +89,8 @@ module _ (m d w h : ℕ) (pixels : List ℕ) (space : ℕ) where
 
     pub pack-0 : length pixels ≡ w * h → some (length pixels) (too_large d pixels) ≡ false → w * h * d / 8 ≤ space → 0 ≡ pack_says m d w h pixels space
     pack-0 len small fit = rw (pack-rest, eq-eqb _ _ len, small, le-ltb _ _ fit)
+
+pub ruleset packing = (pack-refused, pack-7, pack-8, pack-11, pack-0, sym)
 
 -- what is known of a tile that is packed
 pub record Packable (m d w h : ℕ) (pixels : List ℕ) (space : ℕ) : Type 0 where
@@ -96,7 +106,7 @@ packable m d w h pixels space z =
     let check : (k : ℕ) → get_or (pack_checks m d w h pixels space) k 0 ≡ 0 = all-passed (pack_checks m d w h pixels space) z in
     let len : length pixels ≡ w * h = eqb-true (length pixels) (w * h) (passes 6 (eqb (length pixels) (w * h)) (check 3)) in
     let none : some (length pixels) (too_large d pixels) ≡ false = not-given 7 (some (length pixels) (too_large d pixels)) (check 4) in
-    let tile : tile_says m d w h ≡ 0 = all_first (tile_checks m d w h) (pack_rest m d w h pixels space) z in
+    let tile : tile_says m d w h ≡ 0 = checks-first (tile_checks m d w h) (pack_rest m d w h pixels space) z in
     record {
       allowed = tile;
       native = native-of m d w h tile;
@@ -133,12 +143,16 @@ module _ (m d w h len space : ℕ) where
 
   pub unpack-first : (n : ℕ) → n ≡ tile_says m d w h → (n ≡ 0 → ⊥) → n ≡ unpack_says m d w h len space
   unfolding tile_says unpack_says
-  unpack-first n e f = e ∙ first_of (tile_checks m d w h) unpack_rest (λ z. f (e ∙ z))
+  unpack-first = checks-given (tile_checks m d w h) unpack_rest
+
+  pub unpack-refused : (e : Refusal) → refusal_number e ≡ tile_says m d w h → refusal_number e ≡ unpack_says m d w h len space
+  unfolding tile_says unpack_says
+  unpack-refused = refused_first (tile_checks m d w h) unpack_rest
 
   module _ (z : tile_says m d w h ≡ 0) where
     unpack-rest : unpack_says m d w h len space ≡ first_applying unpack_rest
     unfolding tile_says unpack_says
-    unpack-rest = rest_of (tile_checks m d w h) unpack_rest z
+    unpack-rest = checks-after (tile_checks m d w h) unpack_rest z
 
     pub unpack-7 : (len ≡ w * h * d / 8 → ⊥) → 7 ≡ unpack_says m d w h len space
     unpack-7 f = rw (unpack-rest, ne_eqb _ _ f)
@@ -148,6 +162,8 @@ module _ (m d w h len space : ℕ) where
 
     pub unpack-0 : len ≡ w * h * d / 8 → w * h ≤ space → 0 ≡ unpack_says m d w h len space
     unpack-0 e fit = rw (unpack-rest, eq-eqb _ _ e, le-ltb _ _ fit)
+
+pub ruleset unpacking = (unpack-refused, unpack-7, unpack-11, unpack-0, sym)
 
 -- what is known of a tile that is unpacked
 pub record Unpackable (m d w h len space : ℕ) : Type 0 where
@@ -160,7 +176,7 @@ pub unpackable : (m d w h len space : ℕ) → unpack_says m d w h len space ≡
 unfolding tile_says unpack_says
 unpackable m d w h len space z =
     let check : (k : ℕ) → get_or (unpack_checks m d w h len space) k 0 ≡ 0 = all-passed (unpack_checks m d w h len space) z in
-    let tile : tile_says m d w h ≡ 0 = all_first (tile_checks m d w h) (unpack_rest m d w h len space) z in
+    let tile : tile_says m d w h ≡ 0 = checks-first (tile_checks m d w h) (unpack_rest m d w h len space) z in
     record {
       allowed = tile;
       native = native-of m d w h tile;

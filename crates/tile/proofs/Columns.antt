@@ -1,6 +1,6 @@
 -- Words that were turned once give the rows of every plane, at each depth and in each group.
 -- Assumes nothing.
-use mathlib.Core.Path.{◌≡◌, sym, ap, ap₂, ◌∙◌, subst}
+use mathlib.Core.Path.{◌≡◌, sym, ap, ap₂, ◌∙◌}
 use mathlib.Core.Bool.{Bool, false, ◌&&◌}
 use mathlib.Core.List.{List, [], ◌∷◌}
 use mathlib.Core.Logic.{⊎_elim}
@@ -21,7 +21,7 @@ use Rattle.tile.specs.declared.Packing.TheVariants.{Planar}
 use Rattle.tile.proofs.Bits.{bit-lt, bits-same, bit-of-bits}
 use Rattle.tile.proofs.Wires.{columns-is}
 use Rattle.tile.proofs.Filling.{Starts}
-use Rattle.tile.proofs.Sides.{Within, word_lt, word_byte, starts-small, fewer-planes}
+use Rattle.tile.proofs.Sides.{Within, word_byte, fewer-planes}
 use Rattle.tile.proofs.Packings.{each_at, planes-of}
 
 -- a byte of the only word
@@ -49,13 +49,8 @@ abbrev pub turned : List ℕ → ℕ → ℕ
 turned xs i = reversed_bytes (crossed (word_at false xs (i * 8)))
 
 module _ (xs : List ℕ) (small : (i : ℕ) → get_or xs i 0 < 256) where
-  turned_lt : (i : ℕ) → turned xs i < 2 ^ 64
-  turned_lt i =
-      subst (λ (w : ℕ). w < 2 ^ 64) (sym (columns-is (word_at false xs (i * 8)) (word_small xs small false (i * 8))))
-      (word_lt column (word_at false xs (i * 8) ∷ []) 0)
-
   pub columns-read : {n : ℕ} {ws : List ℕ} → WordsIn xs n → Starts 8 (turned xs) n ws → Columns xs ws
-  columns-read {n} {ws} h st = record { are = column-are; small = starts-small (turned xs) turned_lt st }
+  columns-read {n} {ws} h st = record { are = column-are }
     where
       column-are : (k q : ℕ) → k < 64 → q < 8 → bit_of q (byte_of ws k) ≡ bit_of (7 - k % 8) (get_or xs (k / 8 * 8 + q) 0)
       column-are k q lk lq =

@@ -70,6 +70,12 @@ pub spread-is : (s : Side) (xs : List ℕ) (n : ℕ) → n ≡ s.count → each 
 unfolding spread
 spread-is s xs n e = sym (table-each n (element s xs)) ∙ ap (λ (n : ℕ). table n 0 (element s xs)) e
 
+-- words that are made as a side says have its bytes
+pub words-of-side : (s : Side) (xs ws : List ℕ) (n : ℕ) → length ws ≡ n → HasWords (element s xs) n ws → n * 8 ≡ s.count
+    → each (length ws) (λ i. bytes_in (get_or ws i 0)) ≡ spread s xs
+words-of-side s xs ws n e h c =
+    ap (λ (k : ℕ). each k (λ i. bytes_in (get_or ws i 0))) e ∙ words_are (element s xs) n ws h ∙ spread-is s xs (n * 8) c
+
 pub tile-stored : (s : Side) (xs : List ℕ) (n : ℕ) {out now : List ℕ} {at b : ℕ} → Filled (run (element s xs)) out at b now
     → b ≡ n → n * 8 ≡ s.count → now ≡ sets out at (spread s xs)
 tile-stored s xs n {out} {at = at} h e c =

@@ -3,20 +3,18 @@
 use mathlib.Core.Path.{◌≡◌, refl, sym, ap, ap₂, ◌∙◌, subst}
 use mathlib.Core.Bool.{Bool, true, false, not}
 use mathlib.Core.List.{List}
-use mathlib.Core.Logic.{⊎_elim}
 use Prim.Native.Nat.{ℕ, zero, suc, ◌+◌, ◌-◌, ◌*◌, ◌/◌, ◌%◌, ◌^◌, ◌≤◌, ◌<◌}
-use native.Mathlib.Nat.{eq-zero-or-pos, zero-div, zero-add}
+use native.Mathlib.Nat.{zero-div, zero-add}
 use native.Mathlib.Omega.{arith}
 use lib.Dec.{T, ltb}
-use lib.Pow.{pow_pos}
 use lib.ListN.{get_or-eq_default, length, get_or}
 use borrow.Author.Tests.{le-ltb, lt-ltb}
 use Rattle.words.specs.Inner.{word_at, byte_in}
-use Rattle.words.proofs.Eights.{word_small, word-byte-at}
+use Rattle.words.proofs.Eights.{word-byte-at}
 use Rattle.tile.specs.Bits.{bit_of, from_bits}
 use Rattle.tile.specs.Layout.{Side, element}
 use Rattle.tile.specs.Packings.{planar}
-use Rattle.tile.specs.Inner.{Planes, gate, word_from, Small, WordsOf, CellOf, byte_of, HasWord}
+use Rattle.tile.specs.Inner.{Planes, gate, word_from, WordsOf, CellOf, byte_of, HasWord}
 use Rattle.tile.proofs.Bits.{bit-lt, bits-lt, bits-same, bits-split, field, bit-of-bits}
 use Rattle.tile.proofs.WordBits.{bit-low, bit-shr}
 use Rattle.tile.proofs.Filling.{Starts}
@@ -102,13 +100,6 @@ has_word s n xs ws b w lb within read lk e m lm =
 
 -- ---- words that were read
 
--- words of 64 bits: f's, and 0 for the others
-pub starts-small : {size n : ℕ} {ws : List ℕ} (f : ℕ → ℕ) → ((i : ℕ) → f i < 2 ^ 64) → Starts size f n ws → Small ws
-starts-small {size} {n} f small st k =
-    ⊎_elim (λ (no : n - k ≡ 0). subst (λ (v : ℕ). v < 2 ^ 64) (sym (st.none k (omega arith))) (pow_pos 64))
-    (λ (yes : 0 < n - k). subst (λ (v : ℕ). v < 2 ^ 64) (sym (st.are k (omega arith))) (small k))
-    (eq-zero-or-pos (n - k))
-
 cell-place : (from w k : ℕ) → from + k / 8 / 2 * w + k / 8 % 2 * 8 + k % 8 ≡ from + k / 16 * w + k % 16
 cell-place from w k = let y : k / 8 / 2 ≡ k / 16 = omega arith in rw y (omega arith)
 
@@ -120,21 +111,14 @@ module _ (xs : List ℕ) (small : (i : ℕ) → get_or xs i 0 < 256) where
         ap (λ (w : ℕ). byte_in w (k % 8)) (st.are (k / 8) (omega arith))
         ∙ word-byte-at xs small false (from (k / 8)) (k % 8) (omega arith)
 
-    starts_fit : Small ws
-    starts_fit = starts-small (λ i. word_at false xs (from i)) (λ i. word_small xs small false (from i)) st
-
   pub words-read : {n : ℕ} {ws : List ℕ} → Starts 8 (λ i. word_at false xs (i * 8)) n ws → WordsOf xs n ws
   words-read st =
-      record {
-        are = λ k l. starts-at (λ i. i * 8) st k l ∙ ap (λ (x : ℕ). get_or xs x 0) (omega arith);
-        small = starts_fit (λ i. i * 8) st;
-      }
+      record { are = λ k l. starts-at (λ i. i * 8) st k l ∙ ap (λ (x : ℕ). get_or xs x 0) (omega arith) }
 
   pub cell-read : {ws : List ℕ} (from w : ℕ) → Starts 32 (λ i. word_at false xs (from + i / 2 * w + i % 2 * 8)) 32 ws → CellOf xs from w ws
   cell-read from w st =
       record {
         are = λ k l. starts-at (λ i. from + i / 2 * w + i % 2 * 8) st k (omega arith) ∙ ap (λ (x : ℕ). get_or xs x 0) (cell-place from w k);
-        small = starts_fit (λ i. from + i / 2 * w + i % 2 * 8) st;
       }
 
 -- the planes that a tile does not have are 0

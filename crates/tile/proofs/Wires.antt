@@ -10,9 +10,11 @@ use lib.ListN.{get_or}
 use lib.Pow.{pow_pos}
 use Rattle.words.specs.Inner.{all}
 use Rattle.words.proofs.Loops.{all-at}
+use Rattle.mode.specs.Table.{one_of}
 use Rattle.tile.specs.Layout.{Side}
-use Rattle.tile.specs.Packings.{planar, ngp, low_first, high_first}
-use Rattle.tile.specs.Inner.{Small, word_from, column, strands, cell, quarter, crossed, reversed_bytes, gathered}
+use Rattle.tile.specs.Packings.{planar, ngp}
+use Rattle.tile.specs.Inner.{Small, word_from, column, strands, cell, quarter, crossed, reversed_bytes, gathered, nibbles, row_pairs, row_nibbles}
+use Rattle.tile.proofs.Packings.{each_at}
 use Rattle.tile.proofs.Wiring.{Wire, given, down, up, keep, join, value, pick, merge, origin, is_from, suits, is_wired_in, wired-in}
 
 -- for bit j of word b of a side: whether it has it, and from which word and which bit of it
@@ -75,6 +77,13 @@ columns-wire = tt
 pub one-small : (v : ℕ) → v < 2 ^ 64 → Small (v ∷ [])
 one-small v l zero = l
 one-small v l (suc i) = pow_pos 64
+
+pub four-small : {a b c d : ℕ} → a < 2 ^ 64 → b < 2 ^ 64 → c < 2 ^ 64 → d < 2 ^ 64 → Small (a ∷ b ∷ c ∷ d ∷ [])
+four-small la lb lc ld zero = la
+four-small la lb lc ld (suc zero) = lb
+four-small la lb lc ld (suc (suc zero)) = lc
+four-small la lb lc ld (suc (suc (suc zero))) = ld
+four-small la lb lc ld (suc (suc (suc (suc i)))) = pow_pos 64
 
 pub columns-is : (v : ℕ) → v < 2 ^ 64 → reversed_bytes (crossed v) ≡ word_from column (v ∷ []) 0
 unfolding value
@@ -188,31 +197,26 @@ fold s m w = keep (join w (down w s)) m
 unfoldable pub close : ℕ → ℕ → ℕ → Wire → Wire
 close u s m w = keep (join (up w u) (down w s)) m
 
-unfoldable pub bytes4 : Wire → Wire
-bytes4 w = let x : Wire = fold 8 0x0000ffff0000ffff w in join x (down x 16)
+unfoldable pub pairs_of : ℕ → Wire
+pairs_of i = close 8 32 0x000000000000ffff (close 4 16 0x000000ff000000ff (close 2 8 0x000f000f000f000f (keep (given i) 0x0303030303030303)))
 
-unfoldable pub low_bytes : ℕ → Wire
-low_bytes i = bytes4 (fold 4 0x00ff00ff00ff00ff (keep (given i) 0x0f0f0f0f0f0f0f0f))
+unfoldable pub nibbles_of : ℕ → ℕ → Wire
+nibbles_of u i =
+    fold 16 0x00000000ffffffff (fold 8 0x0000ffff0000ffff (close u (u + 4) 0x00ff00ff00ff00ff (keep (given i) 0x0f0f0f0f0f0f0f0f)))
 
-unfoldable pub high_bytes : ℕ → Wire
-high_bytes i = bytes4 (close 4 8 0x00ff00ff00ff00ff (keep (given i) 0x0f0f0f0f0f0f0f0f))
+pub pairs-value : (e : ℕ → ℕ) (i : ℕ) → row_pairs (e i) ≡ value e (pairs_of i)
+unfolding row_pairs value pairs_of close
+pairs-value e i = refl
 
-unfoldable pub ngp_bytes : ℕ → Wire
-ngp_bytes i =
-    let c : Wire = close 4 16 0x000000ff000000ff (close 2 8 0x000f000f000f000f (keep (given i) 0x0303030303030303)) in
-    join (up c 8) (down c 32)
-
-unfoldable pub lows : ℕ → Wire
-lows b = join (keep (low_bytes (b * 2)) 0x00000000ffffffff) (up (low_bytes (b * 2 + 1)) 32)
-
-unfoldable pub highs : ℕ → Wire
-highs b = join (keep (high_bytes (b * 2)) 0x00000000ffffffff) (up (high_bytes (b * 2 + 1)) 32)
+pub nibbles-value : (e : ℕ → ℕ) (u i : ℕ) → row_nibbles u (e i) ≡ value e (nibbles_of u i)
+unfolding row_nibbles value nibbles_of fold close
+nibbles-value e u i = refl
 
 unfoldable pub ngps : ℕ → Wire
-ngps b =
-    let m : ℕ = 0x000000000000ffff in
-    let low : Wire = join (keep (ngp_bytes (b * 4)) m) (up (keep (ngp_bytes (b * 4 + 1)) m) 16) in
-    join (join low (up (keep (ngp_bytes (b * 4 + 2)) m) 32)) (up (ngp_bytes (b * 4 + 3)) 48)
+ngps b = join (join (join (pairs_of (b * 4)) (up (pairs_of (b * 4 + 1)) 16)) (up (pairs_of (b * 4 + 2)) 32)) (up (pairs_of (b * 4 + 3)) 48)
+
+unfoldable pub nibble_words : ℕ → ℕ → Wire
+nibble_words u b = join (nibbles_of u (b * 2)) (up (nibbles_of u (b * 2 + 1)) 32)
 
 unfoldable pub widen_by : ℕ → ℕ → Wire → Wire
 widen_by s m w = keep (join w (up w s)) m
@@ -222,14 +226,11 @@ apart r =
     let x : Wire = down (given (r / 2)) (r % 2 * 32) in
     widen_by 8 0x00ff00ff00ff00ff (keep (join (keep x 0x00000000ffffffff) (up x 16)) 0x0000ffff0000ffff)
 
-unfoldable pub low_row : ℕ → Wire
-low_row r = widen_by 4 0x0f0f0f0f0f0f0f0f (apart r)
-
 unfoldable pub spread_by : ℕ → ℕ → ℕ → Wire → Wire
 spread_by s u m w = keep (join (down w s) (up w u)) m
 
-unfoldable pub high_row : ℕ → Wire
-high_row r = spread_by 4 8 0x0f0f0f0f0f0f0f0f (apart r)
+unfoldable pub nibble_row : ℕ → ℕ → Wire
+nibble_row u r = spread_by u (u + 4) 0x0f0f0f0f0f0f0f0f (apart r)
 
 unfoldable pub ngp_row : ℕ → Wire
 ngp_row r =
@@ -237,25 +238,17 @@ ngp_row r =
     let y : Wire = keep (join (keep (down x 8) 0x00000000000000ff) (up x 32)) 0x000000ff000000ff in
     spread_by 2 8 0x0303030303030303 (spread_by 4 16 0x000f000f000f000f y)
 
-pub lows-are : T (is_side (low_first 8 8).bytes 4 lows)
-unfolding is_side is_wired_in lows low_bytes bytes4 fold origin pick merge is_from suits
-lows-are = tt
-
-pub highs-are : T (is_side (high_first 8 8).bytes 4 highs)
-unfolding is_side is_wired_in highs high_bytes bytes4 fold close origin pick merge is_from suits
-highs-are = tt
-
 pub ngps-are : T (is_side (ngp 8 8).bytes 2 ngps)
-unfolding is_side is_wired_in ngps ngp_bytes close origin pick merge is_from suits
+unfolding is_side is_wired_in ngps pairs_of close origin pick merge is_from suits
 ngps-are = tt
 
-pub low-row-is : T (is_side (low_first 8 8).pixels 8 low_row)
-unfolding is_side is_wired_in low_row apart widen_by origin pick merge is_from suits
-low-row-is = tt
+pub nibbles-are : (u : ℕ) → T (one_of u (0 ∷ 4 ∷ [])) → T (is_side (nibbles u).bytes 4 (nibble_words u))
+unfolding is_side is_wired_in nibble_words nibbles_of fold close origin pick merge is_from suits
+nibbles-are u t = each_at (0 ∷ 4 ∷ []) (λ u. is_side (nibbles u).bytes 4 (nibble_words u)) tt u t
 
-pub high-row-is : T (is_side (high_first 8 8).pixels 8 high_row)
-unfolding is_side is_wired_in high_row apart widen_by spread_by origin pick merge is_from suits
-high-row-is = tt
+pub nibble-row-is : (u : ℕ) → T (one_of u (0 ∷ 4 ∷ [])) → T (is_side (nibbles u).pixels 8 (nibble_row u))
+unfolding is_side is_wired_in nibble_row apart widen_by spread_by origin pick merge is_from suits
+nibble-row-is u t = each_at (0 ∷ 4 ∷ []) (λ u. is_side (nibbles u).pixels 8 (nibble_row u)) tt u t
 
 pub ngp-row-is : T (is_side (ngp 8 8).pixels 8 ngp_row)
 unfolding is_side is_wired_in ngp_row spread_by origin pick merge is_from suits

@@ -7,10 +7,10 @@ use Rattle.words.specs.Inner.{word_at, byte_in, bytes_in}
 use Rattle.words.specs.Loops.{each}
 use Rattle.mode.specs.Table.{one_of}
 use Rattle.tile.specs.Bits.{bit_of, from_bits}
-use Rattle.tile.specs.Packings.{layout_in}
+use Rattle.tile.specs.Packings.{low_first, high_first, layout_in}
 use Rattle.tile.specs.declared.Packing.{Packing}
 use Rattle.tile.specs.declared.Packing.TheVariants.{Planar, Ngp, LowFirst, HighFirst, Plain, Sprite}
-use Rattle.tile.specs.Layout.{Side, spread}
+use Rattle.tile.specs.Layout.{Layout, Side, spread}
 
 -- How many pixels and bytes a packing has; and the bytes of its pixels, and back.
 abbrev pub pixel_count : Packing → ℕ
@@ -91,12 +91,10 @@ Small ws = (i : ℕ) → get_or ws i 0 < 2 ^ 64
 -- The first n words of a list.
 pub record WordsOf (xs : List ℕ) (n : ℕ) (ws : List ℕ) : Type 0 where
   pub are : (k : ℕ) → k < n * 8 → byte_of ws k ≡ get_or xs k 0
-  pub small : Small ws
 
 -- The words of a cell of 16x16, two a row, whose first pixel stands at place from of a tile w wide.
 pub record CellOf (xs : List ℕ) (from w : ℕ) (ws : List ℕ) : Type 0 where
   pub are : (k : ℕ) → k < 256 → byte_of ws k ≡ get_or xs (from + k / 16 * w + k % 16) 0
-  pub small : Small ws
 
 -- n words read, and if they are fewer than eight the list ends there.
 pub record WordsIn (xs : List ℕ) (n : ℕ) : Type 0 where
@@ -107,7 +105,6 @@ pub record WordsIn (xs : List ℕ) (n : ℕ) : Type 0 where
 -- Words whose bytes were turned, so that byte x has the bits of column x: bit q is that of byte q.
 pub record Columns (xs ts : List ℕ) : Type 0 where
   pub are : (k q : ℕ) → k < 64 → q < 8 → bit_of q (byte_of ts k) ≡ bit_of (7 - k % 8) (get_or xs (k / 8 * 8 + q) 0)
-  pub small : Small ts
 
 -- v, or 0.
 unfoldable pub gate : Bool → ℕ → ℕ
@@ -127,6 +124,11 @@ HasWord f b w = (m : ℕ) → m < 8 → byte_in w m ≡ f (b * 8 + m)
 
 abbrev pub HasWords : (ℕ → ℕ) → ℕ → List ℕ → Type 0
 HasWords f n ws = (i : ℕ) → i < n → HasWord f i (get_or ws i 0)
+
+-- Nibbles, of each two pixels the first moved up by u: by none, or by 4.
+abbrev pub nibbles : ℕ → Layout
+nibbles zero = low_first 8 8
+nibbles (suc u) = high_first 8 8
 
 -- A word turned: bit q of byte x is bit 7 - x of byte q.
 abbrev pub column : Side
@@ -188,6 +190,20 @@ beside s n m a b = bit_or (bit_and (a / 2 ^ s) m) (bit_and (b / 2 ^ s) m * 2 ^ n
 
 unfoldable pub pixel_bits : ℕ → ℕ → ℕ → ℕ → ℕ → ℕ
 pixel_bits a b c d k = beside (k / 2 * 2) 2 0x3333333333333333 (beside (k % 2) 1 0x5555555555555555 a b) (beside (k % 2) 1 0x5555555555555555 c d)
+
+-- Fields moved up by u beside those s places above them, as far as m keeps them; by them the low two bits of eight pixels as two bytes, and the low
+-- four as four bytes, of each two pixels the first moved up by u.
+abbrev pub joined : ℕ → ℕ → ℕ → ℕ → ℕ
+joined u s m w = bit_and (bit_or (w * 2 ^ u % 2 ^ 64) (w / 2 ^ s)) m
+
+unfoldable pub row_pairs : ℕ → ℕ
+row_pairs w = joined 8 32 0x000000000000ffff (joined 4 16 0x000000ff000000ff (joined 2 8 0x000f000f000f000f (bit_and w 0x0303030303030303)))
+
+unfoldable pub row_nibbles : ℕ → ℕ → ℕ
+row_nibbles u w =
+    let two : ℕ = joined u (u + 4) 0x00ff00ff00ff00ff (bit_and w 0x0f0f0f0f0f0f0f0f) in
+    let four : ℕ = bit_and (bit_or two (two / 2 ^ 8)) 0x0000ffff0000ffff in
+    bit_and (bit_or four (four / 2 ^ 16)) 0x00000000ffffffff
 
 -- Bit s of each byte of a word, moved up by u.
 abbrev pub bits_up : ℕ → ℕ → ℕ → ℕ

@@ -11,27 +11,24 @@ pub fn words_of(bytes: &[u8], n: usize) -> [u64; 8]
     ensures { WordsOf bytes.now n result }
 {
     let mut ws = [0u64; 8];
-    let mut i = 0;
-    while i < n {
+    for i in 0..n {
         ws[i] = words::word_at(bytes, i * 8, false);
-        i += 1;
     }
     ws
 }
 
-// The bytes of n words, from place at of out on.
-pub fn put_words(out: &mut [u8], at: usize, ws: &[u64; 8], n: usize)
-    requires { (n ≤ 8) × (at + n * 8 ≤ length out.old) }
-    ensures { out.new ≡ sets out.old at (each n (λ i. bytes_in (get_or ws.now i 0))) }
+// The bytes of words, from place at of out on.
+pub fn put_words(out: &mut [u8], at: usize, ws: &[u64])
+    requires { at + length ws.now * 8 ≤ length out.old }
+    ensures { out.new ≡ sets out.old at (each (length ws.now) (λ i. bytes_in (get_or ws.now i 0))) }
 {
-    let mut i = 0;
-    while i < n {
+    for i in 0..ws.len() {
         words::put_bytes(out, at + i * 8, ws[i]);
-        i += 1;
     }
 }
 
 // Bit j of byte k becomes bit k of byte j, by three exchanges.
+#[tactic(auto, unfolding(crate::specs::Inner::crossed))]
 pub fn cross(w: u64) -> u64
     ensures { result ≡ crossed w }
 {
@@ -45,6 +42,7 @@ pub fn cross(w: u64) -> u64
 }
 
 // The bytes of a word in reverse order.
+#[tactic(auto, unfolding(crate::specs::Inner::reversed_bytes))]
 pub fn reverse_bytes(w: u64) -> u64
     ensures { result ≡ reversed_bytes w }
 {
@@ -54,6 +52,7 @@ pub fn reverse_bytes(w: u64) -> u64
 }
 
 // Bit s of each byte of the eight words from place at on: bit k of a byte is that of word at + k.
+#[tactic(auto, unfolding(crate::specs::Inner::gathered))]
 pub fn gather(ws: &[u64], at: usize, s: usize) -> u64
     requires { (at + 8 ≤ length ws.now) × (s < 8) }
     ensures { result ≡ gathered ws.now at s }

@@ -4,7 +4,7 @@ ghost use Rattle.tile.specs.Inner.{pixel_count, byte_count, is_packing};
 ghost use Rattle.tile.specs.Tile.{pairs, fours, gba_packing, wsc_packing, packing_of};
 
 use crate::Packing;
-use mode::{Mode, console};
+use mode::Mode;
 
 // How many pixels a tile has.
 pub fn pixel_count(p: Packing) -> usize
@@ -83,27 +83,26 @@ fn sprite_packing(width: u32, height: u32) -> Packing
 }
 
 // How a mode packs its tiles.
+#[tactic(auto, unfolding(crate::specs::Tile::packing_of))]
 pub fn packing_of(m: Mode, depth: u32, width: u32, height: u32) -> Packing
-    requires { m.0 < 16 }
-    ensures { result ≡ packing_of m.0 depth width height }
+    ensures { result ≡ packing_of m depth width height }
 {
-    let number = m.0;
-    match number {
-        console::SNES => pairs(depth),
-        console::SNES_MODE7 => Packing::Plain,
-        console::GB => pairs(depth),
-        console::GBC => pairs(depth),
-        console::GBA => gba_packing(depth),
-        console::GBA_AFFINE => Packing::Plain,
-        console::MD => Packing::LowFirst,
-        console::SMS => fours(),
-        console::GG => fours(),
-        console::PCE => pairs(depth),
-        console::PCE_SPRITE => sprite_packing(width, height),
-        console::NGP => Packing::Ngp,
-        console::NGPC => Packing::Ngp,
-        console::WS => pairs(depth),
-        console::WSC => wsc_packing(depth),
+    match m {
+        Mode::SNES => pairs(depth),
+        Mode::SNES_MODE7 => Packing::Plain,
+        Mode::GB => pairs(depth),
+        Mode::GBC => pairs(depth),
+        Mode::GBA => gba_packing(depth),
+        Mode::GBA_AFFINE => Packing::Plain,
+        Mode::MD => Packing::LowFirst,
+        Mode::SMS => fours(),
+        Mode::GG => fours(),
+        Mode::PCE => pairs(depth),
+        Mode::PCE_SPRITE => sprite_packing(width, height),
+        Mode::NGP => Packing::Ngp,
+        Mode::NGPC => Packing::Ngp,
+        Mode::WS => pairs(depth),
+        Mode::WSC => wsc_packing(depth),
         _ => Packing::HighFirst,
     }
 }

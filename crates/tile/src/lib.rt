@@ -14,7 +14,7 @@ pub use layouts::{byte_count, packing_of, pixel_count};
 pub use tiles::{put_pixels, put_tile};
 
 // How the bits of a tile's pixels stand in its bytes.
-#[derive(Clone, Copy)]
+#[derive(Clone, Copy, Debug, PartialEq, Eq)]
 pub enum Packing {
     // Planes in groups: a byte of each plane of the group for each row.
     Planar { group: usize, depth: usize },

@@ -3,7 +3,7 @@ ghost use Rattle.std.specs.Prelude.{◌≡◌, ◌<◌};
 ghost use Rattle.std.proofs.lemmas.List.Edits.{sets};
 ghost use Rattle.tile.specs.Layout.{spread};
 ghost use Rattle.tile.specs.Packings.{planar};
-ghost use Rattle.tile.specs.Inner.{PacksWhole, UnpacksWhole, Group, Small, WordsIn, Columns, word_from, strands};
+ghost use Rattle.tile.specs.Inner.{PacksWhole, UnpacksWhole, Group, WordsIn, Columns, word_from, strands};
 
 use crate::Packing;
 use crate::eights::{cross, gather, put_words, reverse_bytes, words_of};
@@ -11,14 +11,14 @@ use crate::eights::{cross, gather, put_words, reverse_bytes, words_of};
 // Eight bytes of a planar tile whose rows are the words ws: with planes alone, one bit of each pixel of the eight rows; in pairs two bits of four
 // rows; in fours four bits of two.
 fn one_plane_word(ws: &[u64; 8], b: usize) -> u64
-    requires { Small ws.now × (b < 8) }
+    requires { b < 8 }
     ensures { result ≡ word_from (planar 1 8 8 8).bytes ws.now b }
 {
     cross(reverse_bytes(gather(ws, 0, b)))
 }
 
 fn pair_word(ws: &[u64; 8], b: usize) -> u64
-    requires { Small ws.now × (b < 8) }
+    requires { b < 8 }
     ensures { result ≡ word_from (planar 2 8 8 8).bytes ws.now b }
 {
     let m = 0x0303030303030303;
@@ -32,7 +32,7 @@ fn pair_word(ws: &[u64; 8], b: usize) -> u64
 }
 
 fn four_word(ws: &[u64; 8], b: usize) -> u64
-    requires { Small ws.now × (b < 8) }
+    requires { b < 8 }
     ensures { result ≡ word_from (planar 4 8 8 8).bytes ws.now b }
 {
     let m = 0x0f0f0f0f0f0f0f0f;
@@ -44,7 +44,7 @@ fn four_word(ws: &[u64; 8], b: usize) -> u64
 
 // Word b of a planar tile; it is the same at each depth that has it.
 fn planar_word(ws: &[u64; 8], group: usize, b: usize) -> u64
-    requires { Small ws.now × Group group × (b < 8) }
+    requires { Group group × (b < 8) }
     ensures { result ≡ word_from (planar group 8 8 8).bytes ws.now b }
 {
     if group == 1 {
@@ -63,12 +63,10 @@ pub fn put_planes(tile: &[u8], group: usize, depth: usize, out: &mut [u8], at: u
 {
     let ws = words_of(tile, 8);
     let mut part = [0u64; 8];
-    let mut b = 0;
-    while b < depth {
+    for b in 0..depth {
         part[b] = planar_word(&ws, group, b);
-        b += 1;
     }
-    put_words(out, at, &part, depth);
+    put_words(out, at, &part[..depth]);
 }
 
 // The first n words of a tile's bytes, each turned, and 0 for the others: byte x of a word has the bits of column x.
@@ -77,10 +75,8 @@ fn column_words(bytes: &[u8], n: usize) -> [u64; 8]
     ensures { Columns bytes.now result }
 {
     let mut ws = [0u64; 8];
-    let mut i = 0;
-    while i < n {
+    for i in 0..n {
         ws[i] = reverse_bytes(cross(words::word_at(bytes, i * 8, false)));
-        i += 1;
     }
     ws
 }
@@ -88,14 +84,14 @@ fn column_words(bytes: &[u8], n: usize) -> [u64; 8]
 // Row r of a planar tile whose columns are ws: planes alone, one bit of each word; in pairs two bits of every second word; in fours four
 // bits of every fourth.
 fn one_plane_row(ws: &[u64; 8], r: usize) -> u64
-    requires { Small ws.now × (r < 8) }
+    requires { r < 8 }
     ensures { result ≡ word_from (strands 1) ws.now r }
 {
     gather(ws, 0, r)
 }
 
 fn pair_row(ws: &[u64; 8], r: usize) -> u64
-    requires { Small ws.now × (r < 8) }
+    requires { r < 8 }
     ensures { result ≡ word_from (strands 2) ws.now r }
 {
     let m = 0x0303030303030303;
@@ -108,7 +104,7 @@ fn pair_row(ws: &[u64; 8], r: usize) -> u64
 }
 
 fn four_row(ws: &[u64; 8], r: usize) -> u64
-    requires { Small ws.now × (r < 8) }
+    requires { r < 8 }
     ensures { result ≡ word_from (strands 4) ws.now r }
 {
     let m = 0x0f0f0f0f0f0f0f0f;
@@ -119,7 +115,7 @@ fn four_row(ws: &[u64; 8], r: usize) -> u64
 
 // Row r of a planar tile of eight planes; of one with fewer, the others are 0.
 fn planar_row(ws: &[u64; 8], group: usize, r: usize) -> u64
-    requires { Small ws.now × Group group × (r < 8) }
+    requires { Group group × (r < 8) }
     ensures { result ≡ word_from (strands group) ws.now r }
 {
     if group == 1 {
@@ -137,9 +133,7 @@ pub fn put_plane_rows(bytes: &[u8], group: usize, depth: usize, out: &mut [u8], 
     ensures { out.new ≡ sets out.old at (spread (planar group depth 8 8).pixels bytes.now) }
 {
     let ws = column_words(bytes, depth);
-    let mut r = 0;
-    while r < 8 {
+    for r in 0..8 {
         words::put_bytes(out, at + r * 8, planar_row(&ws, group, r));
-        r += 1;
     }
 }

@@ -4,7 +4,7 @@ ghost use Rattle.std.proofs.lemmas.List.Edits.{sets};
 ghost use Rattle.words.specs.Loops.{each};
 ghost use Rattle.tile.specs.Layout.{spread};
 ghost use Rattle.tile.specs.Packings.{sprite};
-ghost use Rattle.tile.specs.Inner.{PacksWhole, UnpacksWhole, Small, CellOf, word_from, cell, cell_byte, quarter, quarter_words, cell_words, stored_at, beside, pixel_bits};
+ghost use Rattle.tile.specs.Inner.{PacksWhole, UnpacksWhole, CellOf, word_from, cell, cell_byte, quarter, quarter_words, cell_words, stored_at, beside, pixel_bits};
 
 use crate::Packing;
 use crate::eights::{cross, gather};
@@ -15,17 +15,15 @@ fn cell_words(tile: &[u8], from: usize, width: usize) -> [u64; 32]
     ensures { CellOf tile.now from width result }
 {
     let mut ws = [0u64; 32];
-    let mut i = 0;
-    while i < 32 {
+    for i in 0..32 {
         ws[i] = words::word_at(tile, from + i / 2 * width + i % 2 * 8, false);
-        i += 1;
     }
     ws
 }
 
 // Word b of a cell: one plane of four rows, the leftmost pixel at the bottom.
 fn cell_word(ws: &[u64; 32], b: usize) -> u64
-    requires { Small ws.now × (b < 16) }
+    requires { b < 16 }
     ensures { result ≡ word_from cell ws.now b }
 {
     cross(gather(ws, b % 4 * 8, b / 4))
@@ -37,10 +35,8 @@ fn put_cell(tile: &[u8], from: usize, width: usize, out: &mut [u8], at: usize)
     ensures { out.new ≡ sets out.old at (each 128 (λ k. cell_byte tile.now from width k ∷ [])) }
 {
     let ws = cell_words(tile, from, width);
-    let mut b = 0;
-    while b < 16 {
+    for b in 0..16 {
         words::put_bytes(out, at + b * 8, cell_word(&ws, b));
-        b += 1;
     }
 }
 
@@ -51,12 +47,10 @@ pub fn put_sprite(tile: &[u8], width: usize, height: usize, out: &mut [u8], at: 
 {
     let down = height / 16;
     let n = width / 16 * down;
-    let mut c = 0;
-    while c < n {
+    for c in 0..n {
         let left = c / down;
         let above = c % down;
         put_cell(tile, (above * width + left) * 16, width, out, at + c * 128);
-        c += 1;
     }
 }
 
@@ -80,7 +74,7 @@ fn pixel_bits(a: u64, b: u64, c: u64, d: u64, k: usize) -> u64
 
 // The eight pixels of byte k, a byte each: the pixels are joined by bits, then by bytes, so that the words of eight bytes share the most of it.
 fn pixel_word(a: u64, b: u64, c: u64, d: u64, k: usize) -> u64
-    requires { Small (a ∷ b ∷ c ∷ d ∷ []) × (k < 8) }
+    requires { k < 8 }
     ensures { result ≡ word_from quarter (a ∷ b ∷ c ∷ d ∷ []) k }
 {
     let s = k % 2 * 8;
@@ -112,10 +106,8 @@ fn put_quarter(bytes: &[u8], from: usize, ws: &mut [u64], at: usize)
     let b = words::word_at(bytes, from + 32, false);
     let c = words::word_at(bytes, from + 64, false);
     let d = words::word_at(bytes, from + 96, false);
-    let mut k = 0;
-    while k < 8 {
+    for k in 0..8 {
         ws[at + k] = pixel_word(a, b, c, d, k);
-        k += 1;
     }
 }
 
@@ -125,10 +117,8 @@ fn cell_pixels(bytes: &[u8], from: usize) -> [u64; 32]
     ensures { result ≡ cell_words bytes.now from }
 {
     let mut ws = [0u64; 32];
-    let mut j = 0;
-    while j < 4 {
+    for j in 0..4 {
         put_quarter(bytes, from + j * 8, &mut ws, j * 8);
-        j += 1;
     }
     ws
 }
@@ -138,10 +128,8 @@ fn put_cell_rows(ws: &[u64; 32], width: usize, out: &mut [u8], at: usize)
     requires { (width ≤ 32) × (at + 15 * width + 16 ≤ length out.old) }
     ensures { out.new ≡ stored_at 32 (λ t. at + t / 2 * width + t % 2 * 8) (λ t. get_or ws.now t 0) out.old }
 {
-    let mut t = 0;
-    while t < 32 {
+    for t in 0..32 {
         words::put_bytes(out, at + t / 2 * width + t % 2 * 8, ws[t]);
-        t += 1;
     }
 }
 
@@ -152,12 +140,10 @@ pub fn put_sprite_rows(bytes: &[u8], width: usize, height: usize, out: &mut [u8]
 {
     let down = height / 16;
     let n = width / 16 * down;
-    let mut c = 0;
-    while c < n {
+    for c in 0..n {
         let left = c / down;
         let above = c % down;
         let ws = cell_pixels(bytes, c * 128);
         put_cell_rows(&ws, width, out, at + (above * width + left) * 16);
-        c += 1;
     }
 }

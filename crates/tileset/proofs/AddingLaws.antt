@@ -3,13 +3,17 @@
 use mathlib.Core.Path.{◌≡◌, refl, sym, ap, ◌∙◌}
 use mathlib.Core.Bool.{Bool, true, false, not, cond, ◌&&◌, and-false}
 use mathlib.Core.List.{List, [], ◌∷◌, ◌++◌}
+use Rattle.std.specs.Prelude.{Result}
+use Rattle.std.specs.Result.{IsErrAnd}
 use Prim.Native.Nat.{ℕ, ◌<◌, ◌≤◌}
 use lib.ListN.{length}
 use borrow.Author.Tests.{le-leb, lt-leb}
 use Rattle.words.specs.Answers.{◌when◌, first_applying}
 use Rattle.words.proofs.Answers.{either_way, when-refused}
 use Rattle.words.proofs.Order.{checks-after, checks-first, checks-given}
-use Rattle.tileset.specs.Sets.{room_in, look_checks, look_says}
+use Rattle.words.specs.Refusals.{refusal_number}
+use Rattle.words.specs.declared.refusal.Refusal.{Refusal}
+use Rattle.tileset.specs.Sets.{room_in, look_checks, look_says, set_answer_by}
 use Rattle.tileset.specs.Finding.{found_in, is_found}
 use Rattle.tileset.specs.Adding.{discards, no_room, counter_full, end_checks, one_stored, one_discarded, at_end, added_by, store_by}
 use Rattle.tileset.specs.Adding.{add_says, added, store_with, Adds, AddsTile}
@@ -18,7 +22,8 @@ use Rattle.tileset.specs.declared.Set.{Set}
 use Rattle.tileset.specs.declared.SetAnswer.{SetAnswer}
 use Rattle.tileset.specs.declared.Found.{Found}
 use Rattle.tileset.specs.declared.Found.TheVariants.{Nothing}
-use Rattle.tileset.proofs.Says.{refused-set}
+use Rattle.words.proofs.Refusing.{refusal-not-done, passed_on}
+use Rattle.tileset.proofs.Says.{refused-set, looks-of}
 
 -- one of the two last checks counts
 one_end : (d a b : Bool) → first_applying (12 when (not d && a) ∷ 13 when (d && b) ∷ []) ≡ cond d (13 when b) (12 when a)
@@ -111,11 +116,14 @@ module _ (z : Set) (s p : List ℕ) where
     unfolding store_with
     with-is = store_by_lem z found d e s p
 
-  module _ {r : SetAnswer} {after : List ℕ} where
-    pub refuse-add : (n : ℕ) → n ≡ look_says z (length s) (length p) → (n ≡ 0 → ⊥) → r ≡ record { refusal = n; set = z } → after ≡ s → AddsTile z s p r after
-    unfolding add_says look_says added store_with
-    refuse-add = refuse-by looks z found room s p
+  pub refuse-add : (r : Result Set Refusal) (e : Refusal) → refusal_number e ≡ look_says z (length s) (length p) → IsErrAnd r (λ x. x ≡ e)
+      → AddsTile z s p (set_answer_by z r) s
+  unfolding add_says look_says added store_with
+  refuse-add r e given is =
+      refuse-by looks z found room s p (refusal_number e) given (refusal-not-done e)
+      (ap (set_answer_by z) (passed_on r e is)) refl
 
+  module _ {r : SetAnswer} {after : List ℕ} where
     pub store-add : look_says z (length s) (length p) ≡ 0 → discards z found ≡ false → Stores z room s p r after → AddsTile z s p r after
     unfolding add_says look_says added store_with
     store-add = stored-by looks z found room s p
@@ -123,3 +131,5 @@ module _ (z : Set) (s p : List ℕ) where
     pub discard-add : look_says z (length s) (length p) ≡ 0 → discards z found ≡ true → r ≡ discard_answer z → after ≡ s → AddsTile z s p r after
     unfolding add_says look_says added store_with
     discard-add = discarded-by looks z found room s p
+
+pub ruleset add_rules = (refuse-add, store-add, discard-add, looks-of, discards-off, discards-new, discards-found)

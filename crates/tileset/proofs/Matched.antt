@@ -12,16 +12,16 @@ use lib.Seq.{get_or-append_seam}
 use Rattle.words.proofs.Loops.{or-true}
 use Rattle.words.proofs.Items.{neither_left, neither_right}
 use Rattle.flip.specs.Matching.{match_flip, is_under, matches}
-use Rattle.flip.specs.declared.Match.{Match}
-use Rattle.flip.specs.declared.Match.TheVariants.{Under, Never}
+use Rattle.std.specs.Prelude.{Option, Some, None}
 use Rattle.flip.proofs.Equivalence.{matches-trans}
 use Rattle.tileset.specs.Finding.{found_or, first_found, look_up, is_found}
 use Rattle.tileset.specs.Matched.{matches_some, Apart}
+use Rattle.flip.specs.declared.Flip.{Flip}
 use Rattle.tileset.specs.declared.Found.{Found}
 
-found-or : (m : Match) (k : ℕ) (r : Found) → is_found (found_or m k r) ≡ (is_under m || is_found r)
-found-or (Under f) k r = refl
-found-or Never k r = refl
+found-or : (m : Option Flip) (k : ℕ) (r : Found) → is_found (found_or m k r) ≡ (is_under m || is_found r)
+found-or (Some f) k r = refl
+found-or None k r = refl
 
 module _ (on : Bool) (w h : ℕ) where
   found_some : (tile : List ℕ) (k : ℕ) (tiles : List (List ℕ)) → is_found (first_found (λ a. match_flip on w h a tile) k tiles) ≡ matches_some on w h tiles tile

@@ -7,8 +7,12 @@ use native.Mathlib.Nat.{div-le_self, mod-le, mod-lt, mul-le-mul, mul-le-mul_left
 use native.Mathlib.Omega.{arith}
 use lib.Dec.{ltb}
 use borrow.Author.Tests.{lt-ltb, le-ltb}
-use Rattle.words.specs.Answers.{◌when◌}
-use Rattle.words.proofs.Order.{checks-after, checks-given}
+use Rattle.std.specs.Prelude.{Ok, Err}
+use Rattle.words.specs.Answers.{◌when◌, numbered}
+use Rattle.words.specs.Refusals.{refusal_number, numbered_by}
+use Rattle.words.specs.declared.refusal.Refusal.{Refusal}
+use Rattle.words.proofs.Refusing.{refused_first, numbered-refused}
+use Rattle.words.proofs.Order.{checks-after}
 use Rattle.flip.proofs.Group.{place-lt, place-row, place-column}
 use Rattle.tileset.specs.Numbers.{starts_at, belongs_to, row_cells, first_cell, tile_of, grid_checks, grid_says, native_says, Grid}
 use Rattle.tileset.proofs.Sizes.{grid-of}
@@ -117,14 +121,22 @@ pub tile-8 : (m c : ℕ) → tile_of m 8 8 c ≡ c
 unfolding belongs_to
 tile-8 m c = rw (div-one (c / row_cells m), div-one (row_cells m), div-one (c % row_cells m)) (div-add-mod' c (row_cells m))
 
--- ---- the checks of the two numbers: n is the tile number
+-- ---- the checks of the two numbers: a refused one is 0, and any other is given
+
+pub number_refused : (e : Refusal) (k value : ℕ) → refusal_number e ≡ k → numbered k value ≡ numbered_by (Err e)
+number_refused e k value given = sym (numbered-refused e value given)
+
+pub number_done : (k value : ℕ) → k ≡ 0 → numbered k value ≡ numbered_by (Ok value)
+number_done k value e = ap (λ (n : ℕ). numbered n value) e
+
+-- n is the tile number
 module _ (m w h n : ℕ) where
   abbrev high : List ℕ
   high = 4 when ltb 65535 n ∷ []
 
-  pub native-first : (k : ℕ) → k ≡ grid_says m w h → (k ≡ 0 → ⊥) → k ≡ native_says m w h n
+  pub native_refused : (e : Refusal) → refusal_number e ≡ grid_says m w h → refusal_number e ≡ native_says m w h n
   unfolding grid_says native_says
-  native-first k e due = checks-given (grid_checks m w h) high k e due
+  native_refused e given = refused_first (grid_checks m w h) high e given
 
   module _ (z : grid_says m w h ≡ 0) where
     pub native-4 : 65535 < n → 4 ≡ native_says m w h n
@@ -134,3 +146,5 @@ module _ (m w h n : ℕ) where
     pub native-0 : n ≤ 65535 → native_says m w h n ≡ 0
     unfolding grid_says native_says
     native-0 le = checks-after (grid_checks m w h) high z ∙ rw (le-ltb 65535 n le)
+
+pub ruleset number_rules = (native_refused, native-4, native-0, number_refused, number_done, grid-of)

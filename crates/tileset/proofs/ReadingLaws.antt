@@ -4,6 +4,8 @@ use mathlib.Core.Path.{◌≡◌, refl, sym, ap, ap₂, ◌∙◌, subst}
 use mathlib.Core.Bool.{Bool, true, false, not, cond}
 use mathlib.Core.List.{List, [], ◌∷◌, ◌++◌}
 use mathlib.Core.Logic.{⊎_elim}
+use Rattle.std.specs.Prelude.{Result}
+use Rattle.std.specs.Result.{IsErrAnd}
 use Prim.Native.Nat.{ℕ, zero, suc, ◌+◌, ◌-◌, ◌*◌, ◌/◌, ◌%◌, ◌^◌, ◌<◌, ◌≤◌}
 use native.Mathlib.Nat.{mod-lt, div-le_self, mul-le-mul, mul-le-mul_left, mul-le-mul_right, mul-pos, mul_assoc, mul_left_comm, mul_comm, add-mul, mul-one, one-mul, add-zero, zero-add, div-add-mod', zero-div, div-lt_iff_lt-mul, le-div_iff_mul-le, le_trans, lt_of_mul-lt-mul_right, eq-or-lt_of_le}
 use native.Mathlib.Omega.{arith}
@@ -16,21 +18,25 @@ use Rattle.words.specs.Loops.{each}
 use Rattle.words.proofs.Answers.{all-passed, not-given, when-done, when-refused}
 use Rattle.words.proofs.Items.{item-get_or, item-inside, item-end, each-eq, each-each}
 use Rattle.words.proofs.Loops.{length-each}
-use Rattle.words.proofs.Order.{checks-after, checks-first, checks-given, checks-rest}
+use Rattle.words.proofs.Order.{checks-after, checks-first, checks-rest}
 use Rattle.mode.specs.Table.{pce-sprite}
 use Rattle.tile.specs.Inner.{Unpacks, byte_count, unpacked_in}
-use Rattle.tile.specs.Tile.{packing_of, layout_of, unpacked}
+use Rattle.tile.specs.Tile.{is_native, packing_of, layout_of, unpacked}
 use Rattle.tile.specs.declared.Packing.{Packing}
 use Rattle.tile.proofs.Native.{Native, fitting}
 use Rattle.tile.proofs.RoundTrip.{length-spread, spread-lt}
 use Rattle.flip.proofs.Group.{place-lt, place-row, place-column}
-use Rattle.tileset.specs.Sets.{set_checks, set_says, set_room, held_says, no_set, room_under}
+use Rattle.tileset.specs.Sets.{set_checks, set_says, set_room, held_says, no_set, room_under, set_answer_by}
 use Rattle.tileset.specs.Numbers.{row_cells, starts_at, first_cell, Grid}
 use Rattle.tileset.specs.Reading.{last_cell, whole_from, whole_tiles, tile_size, unit_bytes, read_count, read_says, read_set, cell_in, pixel_in, row_in, tile_in, read_pixels, Reads}
-use Rattle.tileset.specs.Inner.{cells_in, place_in, row_of}
+use Rattle.tileset.specs.Inner.{IsShape, cells_in, place_in, row_of}
 use Rattle.tileset.specs.declared.Set.{Set}
+use Rattle.tileset.specs.declared.shape.Shape.{Shape}
 use Rattle.tileset.specs.declared.SetAnswer.{SetAnswer}
 use Rattle.tileset.proofs.Sizes.{IsSet, set-of, bits-some}
+use Rattle.words.specs.Refusals.{refusal_number}
+use Rattle.words.specs.declared.refusal.Refusal.{Refusal}
+use Rattle.words.proofs.Refusing.{refusal-not-done, refused_first, passed_on}
 use Rattle.tileset.proofs.Says.{held-0, refused-set, done-set}
 use Rattle.tileset.proofs.NumberLaws.{row-some, start-row, start-across}
 
@@ -204,9 +210,9 @@ module _ (m d w h len space : ℕ) where
   abbrev last : List ℕ
   last = 7 when not (eqb part 0) ∷ 11 when ltb space (count * (w * h)) ∷ 12 when ltb 65535 count ∷ []
 
-  pub read_first : (n : ℕ) → n ≡ set_says m d w h → (n ≡ 0 → ⊥) → n ≡ read_says m d w h len space
+  pub read_refused : (e : Refusal) → refusal_number e ≡ set_says m d w h → refusal_number e ≡ read_says m d w h len space
   unfolding read_says set_says
-  read_first n e due = checks-given (set_checks m d w h) last n e due
+  read_refused e given = refused_first (set_checks m d w h) last e given
 
   module _ (z : set_says m d w h ≡ 0) where
     after : read_says m d w h len space ≡ first_applying last
@@ -423,6 +429,21 @@ module _ {m d w h : ℕ} (s : IsSet m d w h) (other : m ≡ pce-sprite → ⊥) 
       let last = tile-complete (row_cells m) (w / 8) (h / 8) (len / (d * 8)) n (rw (cell-count m d w h len other) lt) in
       (le-div_iff_mul-le {k = d * 8} size).0 (omega arith)
 
+-- ---- a shape reads as its four numbers
+
+module _ {m d w h : ℕ} {s : Shape} (is : IsShape m d w h s) where
+  pub native-as : is_native s.mode s.width s.height ≡ is_native m w h
+  native-as = rw (is.mode, is.width, is.height)
+
+  pub says-as : (len space : ℕ) → read_says s.mode s.depth s.width s.height len space ≡ read_says m d w h len space
+  says-as len space = rw (is.mode, is.depth, is.width, is.height)
+
+  pub count-as : (len : ℕ) → read_count s.mode s.depth s.width s.height len ≡ read_count m d w h len
+  count-as len = rw (is.mode, is.depth, is.width, is.height)
+
+  pub pixels-as : (bytes : List ℕ) → read_pixels s.mode s.depth s.width s.height bytes ≡ read_pixels m d w h bytes
+  pixels-as bytes = rw (is.mode, is.depth, is.width, is.height)
+
 -- ---- the promise
 
 module _ (m d w h : ℕ) (flips : Bool) (bytes store : List ℕ) where
@@ -432,14 +453,15 @@ module _ (m d w h : ℕ) (flips : Bool) (bytes store : List ℕ) where
   abbrev result : Set
   result = read_set m d w h flips (read_count m d w h (length bytes))
 
-  module _ {r : SetAnswer} {left : List ℕ} where
-    pub refuse-read : (n : ℕ) → n ≡ due → (n ≡ 0 → ⊥) → r ≡ record { refusal = n; set = no_set } → left ≡ store → Reads m d w h flips bytes store r left
-    refuse-read n e some a l =
-        record {
-          answer = a ∙ refused-set n result no_set e some;
-          lent = l ∙ sym (when-refused due (overwrite store (read_pixels m d w h bytes)) store (λ q. some (e ∙ q)));
-        }
+  pub refuse-read : (r : Result Set Refusal) (e : Refusal) → refusal_number e ≡ due → IsErrAnd r (λ x. x ≡ e)
+      → Reads m d w h flips bytes store (set_answer_by no_set r) store
+  refuse-read r e given is =
+      record {
+        answer = ap (set_answer_by no_set) (passed_on r e is) ∙ refused-set (refusal_number e) result no_set given (refusal-not-done e);
+        lent = sym (when-refused due (overwrite store (read_pixels m d w h bytes)) store (λ q. refusal-not-done e (given ∙ q)));
+      }
 
+  module _ {r : SetAnswer} {left : List ℕ} where
     pub done-read : due ≡ 0 → r ≡ record { refusal = 0; set = result } → left ≡ overwrite store (read_pixels m d w h bytes) → Reads m d w h flips bytes store r left
     done-read e a l =
         record {

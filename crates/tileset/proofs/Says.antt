@@ -10,16 +10,15 @@ use lib.Dec.{ltb, eqb}
 use lib.ListN.{length}
 use borrow.Author.Tests.{lt-ltb, le-ltb, ltb-false, eq-eqb, ne_eqb, eqb-true, not-false, eqb-false}
 use Rattle.words.specs.Answers.{◌when◌}
+use Rattle.words.specs.Refusals.{refusal_number}
+use Rattle.words.specs.declared.refusal.Refusal.{Refusal}
 use Rattle.words.proofs.Answers.{all-passed, not-given, when-done, when-refused}
-use Rattle.words.proofs.Order.{checks-after, checks-first, checks-given, checks-rest}
+use Rattle.words.proofs.Refusing.{refused_first}
+use Rattle.words.proofs.Order.{checks-after, checks-first, checks-rest}
 use Rattle.tileset.specs.Sets.{area, set_room, room_in, set_checks, set_says, held_says, look_says, answered_set, held_checks, room_under}
-use Rattle.tileset.specs.Finding.{no_place, place_of, placed}
-use Rattle.tileset.specs.Inner.{native_answer, logical_answer, Looks}
+use Rattle.tileset.specs.Inner.{Looks}
 use Rattle.tileset.specs.declared.Set.{Set}
 use Rattle.tileset.specs.declared.SetAnswer.{SetAnswer}
-use Rattle.tileset.specs.declared.Found.{Found}
-use Rattle.tileset.specs.declared.NativeAnswer.{NativeAnswer}
-use Rattle.tileset.specs.declared.LogicalAnswer.{LogicalAnswer}
 use Rattle.tileset.proofs.Sizes.{IsSet, set-of}
 
 -- ---- answers
@@ -34,32 +33,6 @@ refused-set n {k} next set e h =
 pub done-set : {k : ℕ} (next set : Set) → k ≡ 0 → set_answer 0 next ≡ answered_set k next set
 done-set {k} next set e =
     ap (λ (i : ℕ). set_answer i next) (sym e) ∙ ap (set_answer k) (sym (when-done k next set e))
-
-pub refused-place : (n : ℕ) {k : ℕ} (found : Found) → n ≡ k → (n ≡ 0 → ⊥) → no_place n ≡ placed k found
-refused-place n {k} found e h = ap no_place e ∙ sym (when-refused k (place_of found) (no_place k) (λ z. h (e ∙ z)))
-
-pub done-place : {k : ℕ} (found : Found) → k ≡ 0 → place_of found ≡ placed k found
-done-place {k} found e = sym (when-done k (place_of found) (no_place k) e)
-
-abbrev native_raw : ℕ → ℕ → NativeAnswer
-native_raw n cell = record { refusal = n; number = record { 0 = cell } }
-
-pub refused-native : (n : ℕ) {k : ℕ} (cell : ℕ) → n ≡ k → (n ≡ 0 → ⊥) → native_raw n 0 ≡ native_answer k cell
-refused-native n {k} cell e h =
-    ap (λ (i : ℕ). native_raw i 0) e ∙ ap (native_raw k) (sym (when-refused k cell 0 (λ z. h (e ∙ z))))
-
-pub done-native : {k : ℕ} (cell : ℕ) → k ≡ 0 → native_raw 0 cell ≡ native_answer k cell
-done-native {k} cell e = ap (λ (i : ℕ). native_raw i cell) (sym e) ∙ ap (native_raw k) (sym (when-done k cell 0 e))
-
-abbrev logical_raw : ℕ → ℕ → LogicalAnswer
-logical_raw n tile = record { refusal = n; number = record { 0 = tile } }
-
-pub refused-logical : (n : ℕ) {k : ℕ} (tile : ℕ) → n ≡ k → (n ≡ 0 → ⊥) → logical_raw n 0 ≡ logical_answer k tile
-refused-logical n {k} tile e h =
-    ap (λ (i : ℕ). logical_raw i 0) e ∙ ap (logical_raw k) (sym (when-refused k tile 0 (λ z. h (e ∙ z))))
-
-pub done-logical : {k : ℕ} (tile : ℕ) → k ≡ 0 → logical_raw 0 tile ≡ logical_answer k tile
-done-logical {k} tile e = ap (λ (i : ℕ). logical_raw i tile) (sym e) ∙ ap (logical_raw k) (sym (when-done k tile 0 e))
 
 -- ---- room
 
@@ -132,9 +105,9 @@ module _ (z : Set) (len : ℕ) where
   abbrev last : List ℕ
   last = 6 when ltb (room_in z len) z.stored ∷ []
 
-  pub held_first : (n : ℕ) → n ≡ says z → (n ≡ 0 → ⊥) → n ≡ held_says z len
+  pub held_refused : (e : Refusal) → refusal_number e ≡ says z → refusal_number e ≡ held_says z len
   unfolding held_says set_says
-  held_first n e h = checks-given first last n e h
+  held_refused e given = refused_first first last e given
 
   pub held-6 : says z ≡ 0 → room_in z len < z.stored → 6 ≡ held_says z len
   unfolding held_says set_says
@@ -155,9 +128,9 @@ module _ (z : Set) (len : ℕ) where
   unfolding held_says
   held-room e = ltb-false (room_in z len) z.stored (not-given 5 (ltb (room_in z len) z.stored) (all-passed last (checks-rest first last e) 0))
 
-  pub look-first : (given n : ℕ) → n ≡ held_says z len → (n ≡ 0 → ⊥) → n ≡ look_says z len given
+  pub look_refused : (given : ℕ) (e : Refusal) → refusal_number e ≡ held_says z len → refusal_number e ≡ look_says z len given
   unfolding look_says held_says
-  look-first given n e h = checks-given (held_checks z len) (7 when not (eqb given (area z)) ∷ []) n e h
+  look_refused given e h = refused_first (held_checks z len) (7 when not (eqb given (area z)) ∷ []) e h
 
   pub look-7 : (given : ℕ) → held_says z len ≡ 0 → (given ≡ area z → ⊥) → 7 ≡ look_says z len given
   unfolding look_says held_says
@@ -166,6 +139,11 @@ module _ (z : Set) (len : ℕ) where
   pub look-0 : (given : ℕ) → held_says z len ≡ 0 → given ≡ area z → 0 ≡ look_says z len given
   unfolding look_says held_says
   look-0 given e h = sym (checks-after (held_checks z len) (7 when not (eqb given (area z)) ∷ []) e ∙ rw (eq-eqb given (area z) h))
+
+-- the checks' own lemmas
+pub ruleset held_rules = (held_refused, held-6, held-0, set-of, mul-pos)
+
+pub ruleset look_rules = (look_refused, look-7, look-0, held-set)
 
 -- what a look-up and an add know
 pub looks-of : (z : Set) (store pixels : List ℕ) → look_says z (length store) (length pixels) ≡ 0 → Looks z store pixels
@@ -186,3 +164,5 @@ looks-of z store pixels e =
       few = le_trans room (room_most z.limit (length store / area z));
       whole = eqb-true (length pixels) (area z) (not-false (eqb (length pixels) (area z)) (not-given 6 (not (eqb (length pixels) (area z))) given));
     }
+
+pub ruleset look_up_rules = (looks-of)

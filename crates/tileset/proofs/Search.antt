@@ -11,8 +11,7 @@ use lib.ListN.{length, get_or, take, drop}
 use Rattle.flip.specs.Flips.{flip, flipped}
 use Rattle.flip.specs.Matching.{match_flip}
 use Rattle.flip.specs.declared.Flip.{Flip}
-use Rattle.flip.specs.declared.Match.{Match}
-use Rattle.flip.specs.declared.Match.TheVariants.{Under, Never}
+use Rattle.std.specs.Prelude.{Option, Some, None}
 use Rattle.flip.proofs.Group.{flipped-none}
 use Rattle.flip.proofs.Rows.{eq-same}
 use Rattle.flip.proofs.Equivalence.{Takes, Told, match-told, not-both}
@@ -30,13 +29,13 @@ or-found : (q r : Found) → is_found q ≡ true → or_else q r ≡ q
 or-found (At k f) r e = refl
 or-found Nothing r e = not-both e
 
-or-first : (m : Match) (k : ℕ) (q r : Found) → found_or m k (or_else q r) ≡ or_else (found_or m k q) r
-or-first (Under f) k q r = refl
-or-first Never k q r = refl
+or-first : (m : Option Flip) (k : ℕ) (q r : Found) → found_or m k (or_else q r) ≡ or_else (found_or m k q) r
+or-first (Some f) k q r = refl
+or-first None k q r = refl
 
 -- ---- the first that a test of one tile finds
 
-module _ (test : List ℕ → Match) where
+module _ (test : List ℕ → Option Flip) where
   -- tiles after tiles: what is found among the first, and else among the others
   pub found-append : (k : ℕ) (xs ys : List (List ℕ)) → first_found test k (xs ++ ys) ≡ or_else (first_found test k xs) (first_found test (k + length xs) ys)
   found-append k [] ys = ap (λ (i : ℕ). first_found test i ys) (sym (add-zero k))
@@ -47,23 +46,23 @@ module _ (test : List ℕ → Match) where
 
   -- what an answer tells: the tile at the place passes the test
   abbrev Stands : ℕ → List (List ℕ) → Found → Type 0
-  Stands k xs (At j f) = (i : ℕ) × (j.0 ≡ k + i) × (i < length xs) × (test (get_or xs i []) ≡ Under f)
+  Stands k xs (At j f) = (i : ℕ) × (j.0 ≡ k + i) × (i < length xs) × (test (get_or xs i []) ≡ Some f)
   Stands k xs Nothing = Unit {0}
 
-  or-stands : (a : List ℕ) (k : ℕ) (xs : List (List ℕ)) (m : Match) (r : Found) → test a ≡ m → Stands (suc k) xs r → Stands k (a ∷ xs) (found_or m k r)
-  or-stands a k xs (Under f) r e s = (0, omega arith, omega arith, e)
-  or-stands a k xs Never (At j f) e s = (suc s.0, omega (arith, s.1), omega (arith, s.2), s.3)
-  or-stands a k xs Never Nothing e s = tt
+  or-stands : (a : List ℕ) (k : ℕ) (xs : List (List ℕ)) (m : Option Flip) (r : Found) → test a ≡ m → Stands (suc k) xs r → Stands k (a ∷ xs) (found_or m k r)
+  or-stands a k xs (Some f) r e s = (0, omega arith, omega arith, e)
+  or-stands a k xs None (At j f) e s = (suc s.0, omega (arith, s.1), omega (arith, s.2), s.3)
+  or-stands a k xs None Nothing e s = tt
 
   stands : (k : ℕ) (xs : List (List ℕ)) → Stands k xs (first_found test k xs)
   stands k [] = tt
   stands k (a ∷ xs) = or-stands a k xs (test a) (first_found test (suc k) xs) refl (stands (suc k) xs)
 
-  pub found-told : (xs : List (List ℕ)) {k : Logical} {f : Flip} → first_found test 0 xs ≡ At k f → (k.0 < length xs) × (test (get_or xs k.0 []) ≡ Under f)
+  pub found-told : (xs : List (List ℕ)) {k : Logical} {f : Flip} → first_found test 0 xs ≡ At k f → (k.0 < length xs) × (test (get_or xs k.0 []) ≡ Some f)
   found-told xs {k} {f} e =
       let s : Stands 0 xs (At k f) = subst (Stands 0 xs) e (stands 0 xs) in
       let q : k.0 ≡ s.0 = omega (arith, s.1) in
-      (omega (arith, s.2), subst (λ (i : ℕ). test (get_or xs i []) ≡ Under f) (sym q) s.3)
+      (omega (arith, s.2), subst (λ (i : ℕ). test (get_or xs i []) ≡ Some f) (sym q) s.3)
 
   -- the loop: what is found from tile k of a store on
   module _ (n : ℕ) (store : List ℕ) (count : ℕ) where
@@ -80,10 +79,10 @@ module _ (test : List ℕ → Match) where
     unfolding tiles_in found_from
     found-start = rw (sub-zero count)
 
-    pub found-miss : (k : ℕ) → k < count → test (take n (drop (k * n) store)) ≡ Never → found_from k ≡ found_from (k + 1)
+    pub found-miss : (k : ℕ) → k < count → test (take n (drop (k * n) store)) ≡ None → found_from k ≡ found_from (k + 1)
     found-miss k p e = one k p ∙ rw e
 
-    pub found-hit : (k : ℕ) (f : Flip) → k < count → test (take n (drop (k * n) store)) ≡ Under f → found_from k ≡ At (logical k) f
+    pub found-hit : (k : ℕ) (f : Flip) → k < count → test (take n (drop (k * n) store)) ≡ Some f → found_from k ≡ At (logical k) f
     found-hit k f p e = one k p ∙ rw e
 
     pub found-end : (k : ℕ) → count ≤ k → found_from k ≡ Nothing
@@ -93,7 +92,7 @@ module _ (test : List ℕ → Match) where
 -- ---- a look-up of one tile
 
 module _ (on : Bool) (w h : ℕ) (t : List ℕ) where
-  abbrev pub matching : List ℕ → Match
+  abbrev pub matching : List ℕ → Option Flip
   matching a = match_flip on w h a t
 
   pub look-start : (n : ℕ) (store : List ℕ) (count : ℕ) → look_up on w h (tiles_in n store count) t ≡ found_from matching n store count 0
@@ -117,7 +116,7 @@ module _ (on : Bool) (w h : ℕ) (t : List ℕ) where
       (s.0, subst (Told on w h (get_or xs k.0 []) t) s.1 (match-told on w h (get_or xs k.0 []) t))
 
   module _ (z : 0 < w) (len : length t ≡ w * h) where
-    pub match-self : match_flip on w h t t ≡ Under (flip false false)
+    pub match-self : match_flip on w h t t ≡ Some (flip false false)
     unfolding match_flip
     match-self = simp (eq-same (flipped (flip false false) w h t) t (flipped-none w h t z len))
 
@@ -126,4 +125,4 @@ module _ (on : Bool) (w h : ℕ) (t : List ℕ) where
     look-last xs e =
         look-append xs (t ∷ [])
         ∙ ap (λ (r : Found). or_else r (first_found matching (length xs) (t ∷ []))) e
-        ∙ ap (λ (m : Match). found_or m (length xs) Nothing) match-self
+        ∙ ap (λ (m : Option Flip). found_or m (length xs) Nothing) match-self

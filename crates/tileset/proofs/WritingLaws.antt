@@ -17,11 +17,12 @@ use Rattle.words.proofs.Answers.{all-passed, not-given}
 use Rattle.words.proofs.Filling.{each_part}
 use Rattle.words.proofs.Items.{each-eq, each-each, item-inside}
 use Rattle.words.proofs.Loops.{length-each, both_left, both_right}
-use Rattle.words.proofs.Order.{checks-after, checks-first, checks-given, checks-rest}
+use Rattle.words.proofs.Order.{checks-after, checks-first, checks-rest}
 use Rattle.mode.specs.Table.{one_of, pce-sprite}
 use Rattle.tile.specs.Inner.{Packs, pixel_count, packed_in}
 use Rattle.tile.specs.Tile.{is_native, packing_of, layout_of, packed, too_large}
 use Rattle.tile.specs.declared.Packing.{Packing}
+use Rattle.tile.proofs.Checks.{large-front}
 use Rattle.tile.proofs.Native.{Native, fitting}
 use Rattle.tile.proofs.Packings.{each_at}
 use Rattle.tile.proofs.RoundTrip.{length-spread}
@@ -31,6 +32,9 @@ use Rattle.tileset.specs.Writing.{padded_cells, cell_count, corner_of, block, ti
 use Rattle.tileset.specs.declared.Set.{Set}
 use Rattle.tileset.proofs.Sizes.{IsSet, grid-set}
 use Rattle.tileset.proofs.NumberLaws.{tile-8}
+use Rattle.words.specs.Refusals.{refusal_number}
+use Rattle.words.specs.declared.refusal.Refusal.{Refusal}
+use Rattle.words.proofs.Refusing.{refused_first}
 use Rattle.tileset.proofs.Says.{held-set, held-room, room_most, room_whole}
 
 -- ---- whole rows of cells
@@ -205,11 +209,15 @@ module _ (z : Set) (store : List ℕ) (space : ℕ) where
   abbrev rest : List ℕ
   rest = 8 when large ∷ 11 when ltb space (write_size z) ∷ []
 
-  pub write-first : (n : ℕ) → n ≡ held_says z (length store) → (n ≡ 0 → ⊥) → n ≡ write_says z store space
+  pub write_refused : (e : Refusal) → refusal_number e ≡ held_says z (length store) → refusal_number e ≡ write_says z store space
   unfolding write_says held_says
-  write-first n e due = checks-given first rest n e due
+  write_refused e given = refused_first first rest e given
 
   module _ (held : held_says z (length store) ≡ 0) where
+    -- a test of the front of the store is one of the counted pixels
+    pub counted : (b : Bool) → b ≡ some (length (take (z.stored * area z) store)) (too_large z.depth (take (z.stored * area z) store)) → large ≡ b
+    counted b is = sym (is ∙ large-front (z.stored * area z) z.depth store (held-inside z (length store) held))
+
     after : write_says z store space ≡ first_applying rest
     unfolding write_says held_says
     after = checks-after first rest held

@@ -1,15 +1,16 @@
 -- "A look-up answers a place with its flip, or nothing."
 -- Assumes nothing.
-use Rattle.std.specs.Prelude.{Bool, true, false, List, [], ◌∷◌, map, ℕ, zero, suc, ◌*◌, ◌%◌, ◌^◌, take, drop}
+use Rattle.std.specs.Prelude.{Bool, true, false, List, [], ◌∷◌, map, ℕ, zero, suc, ◌*◌, ◌%◌, ◌^◌, take, drop, Option, Some, None, Result, Ok, Err}
 use Rattle.words.specs.Answers.{unless}
+use Rattle.words.specs.Refusals.{refusal_number}
+use Rattle.words.specs.declared.refusal.Refusal.{Refusal}
 use Rattle.flip.specs.Matching.{match_flip}
-use Rattle.flip.specs.declared.Match.{Match}
-use Rattle.flip.specs.declared.Match.TheVariants.{Under, Never}
 use Rattle.tileset.specs.Sets.{area}
 use Rattle.tileset.specs.declared.Set.{Set}
 use Rattle.tileset.specs.declared.Found.{Found}
 use Rattle.tileset.specs.declared.Found.TheVariants.{At, Nothing}
 use Rattle.tileset.specs.declared.Place.{Place}
+use Rattle.flip.specs.declared.Flip.{Flip}
 use Rattle.tileset.specs.declared.Logical.{Logical}
 
 -- "Adding and look-up first cut the given pixels to their low depth bits."
@@ -28,11 +29,11 @@ tiles_in n store count = tiles_from n store 0 count
 abbrev pub logical : ℕ → Logical
 logical n = record { 0 = n }
 
-abbrev pub found_or : Match → ℕ → Found → Found
-found_or (Under f) k rest = At (logical k) f
-found_or Never k rest = rest
+abbrev pub found_or : Option Flip → ℕ → Found → Found
+found_or (Some f) k rest = At (logical k) f
+found_or None k rest = rest
 
-abbrev pub first_found : (List ℕ → Match) → ℕ → List (List ℕ) → Found
+abbrev pub first_found : (List ℕ → Option Flip) → ℕ → List (List ℕ) → Found
 first_found test k [] = Nothing
 first_found test k (a ∷ rest) = found_or (test a) k (first_found test (suc k) rest)
 
@@ -57,3 +58,8 @@ place_of Nothing = no_place 0
 
 abbrev pub placed : ℕ → Found → Place
 placed n found = unless n (place_of found) (no_place n)
+
+-- What a host is told of a result.
+abbrev pub place_by : Result Found Refusal → Place
+place_by (Ok found) = place_of found
+place_by (Err e) = no_place (refusal_number e)

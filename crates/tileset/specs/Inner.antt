@@ -3,17 +3,29 @@
 use Rattle.std.specs.Prelude.{◌≡◌, List, [], ◌∷◌, ◌++◌, ℕ, ◌+◌, ◌*◌, ◌/◌, ◌%◌, ◌<◌, ◌≤◌, length, get_or, Bool}
 use Rattle.words.specs.Loops.{each}
 use Rattle.mode.specs.Table.{pce-sprite, one_of}
-use Rattle.tileset.specs.Sets.{area, set_says, held_says, answered_set, sides}
+use Rattle.tileset.specs.Sets.{area, answered_set, sides}
 use Rattle.tileset.specs.Numbers.{row_cells, first_cell, tile_of, Grid}
-use Rattle.tileset.specs.Writing.{write_size}
 use Rattle.tileset.specs.Reading.{read_count, cell_in, last_cell}
 use Rattle.tileset.specs.declared.Set.{Set}
-use Rattle.words.specs.Answers.{◌when◌, first_applying, unless}
+use Rattle.tileset.specs.declared.shape.Shape.{Shape}
+use Rattle.tileset.specs.declared.numbers.Cells.{Cells}
+use Rattle.words.specs.Answers.{◌when◌, first_applying}
 use Rattle.tileset.specs.declared.SetAnswer.{SetAnswer}
 use Rattle.tileset.specs.declared.Found.{Found}
 use Rattle.tileset.specs.Adding.{no_room, counter_full, end_checks, one_stored, one_discarded, at_end, added_by, store_by, Adds}
-use Rattle.tileset.specs.declared.NativeAnswer.{NativeAnswer}
-use Rattle.tileset.specs.declared.LogicalAnswer.{LogicalAnswer}
+
+-- ---- the shape of a set's tiles, and how they stand in cells
+
+pub record IsShape (m d w h : ℕ) (s : Shape) : Type 0 where
+  pub mode : s.mode ≡ m
+  pub depth : s.depth ≡ d
+  pub width : s.width ≡ w
+  pub height : s.height ≡ h
+
+pub record IsCells (m w h : ℕ) (s : Cells) : Type 0 where
+  pub row : s.row ≡ row_cells m
+  pub across : s.across ≡ w / 8
+  pub down : s.down ≡ h / 8
 
 -- ---- finding: cutting pixels into a buffer, searching some tiles of a store, and searching a set
 
@@ -40,13 +52,8 @@ pub record Looks (z : Set) (store pixels : List ℕ) : Type 0 where
 
 -- ---- numbers, writing and reading
 
--- What writing a set's bytes asks, and one cell's.
-pub record Writes (z : Set) (store out : List ℕ) : Type 0 where
-  pub held : held_says z (length store) ≡ 0
-  pub space : write_size z ≤ length out
-
-pub record PutsCell (z : Set) (store out : List ℕ) (at : ℕ) : Type 0 where
-  pub held : held_says z (length store) ≡ 0
+-- What writing one cell asks.
+pub record PutsCell (z : Set) (out : List ℕ) (at : ℕ) : Type 0 where
   pub cells : z.mode ≡ pce-sprite → ⊥
   pub space : at + z.depth * 8 ≤ length out
 
@@ -65,17 +72,15 @@ pub record HasBlock (store : List ℕ) (corner w : ℕ) (out : List ℕ) : Type 
   pub long : length out ≡ 64
 
 -- What reading the tiles asks, the cells of one tile up to its last, its rows, and one row.
-pub record ReadsAll (z : Set) (bytes store : List ℕ) : Type 0 where
-  pub sound : set_says z.mode z.depth z.width z.height ≡ 0
-  pub few : z.stored ≤ 65535
-  pub is : z.stored ≡ read_count z.mode z.depth z.width z.height (length bytes)
-  pub space : z.stored * area z ≤ length store
+pub record ReadsAll (s : Shape) (count : ℕ) (bytes store : List ℕ) : Type 0 where
+  pub few : count ≤ 65535
+  pub is : count ≡ read_count s.mode s.depth s.width s.height (length bytes)
+  pub space : count * (s.width * s.height) ≤ length store
 
-pub record ReadsCells (m d w h : ℕ) (bytes : List ℕ) (n : ℕ) (out : List ℕ) : Type 0 where
-  pub sound : set_says m d w h ≡ 0
-  pub cells : m ≡ pce-sprite → ⊥
+pub record ReadsCells (s : Shape) (bytes : List ℕ) (n : ℕ) (out : List ℕ) : Type 0 where
+  pub cells : s.mode ≡ pce-sprite → ⊥
   pub few : n ≤ 65535
-  pub inside : (last_cell (row_cells m) (w / 8) (h / 8) n + 1) * (d * 8) ≤ length bytes
+  pub inside : (last_cell (row_cells s.mode) (s.width / 8) (s.height / 8) n + 1) * (s.depth * 8) ≤ length bytes
   pub long : length out ≡ 4096
 
 pub record ReadsRows (w h : ℕ) (cells out : List ℕ) (at : ℕ) : Type 0 where
@@ -110,12 +115,6 @@ Stores z room store pixels r after = Adds (12 when no_room z room) z (one_stored
 
 abbrev pub discard_answer : Set → SetAnswer
 discard_answer z = answered_set (13 when counter_full z) (one_discarded z) z
-
-abbrev pub native_answer : ℕ → ℕ → NativeAnswer
-native_answer n cell = record { refusal = n; number = record { 0 = unless n cell 0 } }
-
-abbrev pub logical_answer : ℕ → ℕ → LogicalAnswer
-logical_answer n tile = record { refusal = n; number = record { 0 = unless n tile 0 } }
 
 abbrev pub is_side : ℕ → Bool
 is_side n = one_of n sides

@@ -2,22 +2,20 @@
 ghost use Rattle.std.specs.Prelude.{◌≡◌, ◌*◌, length};
 ghost use Rattle.std.proofs.lemmas.List.Edits.{sets};
 ghost use Rattle.tileset.specs.Sets.{look_says};
-ghost use Rattle.tileset.specs.Finding.{cut_to, tiles_in, look_up, found_in, no_place, place_of, placed};
+ghost use Rattle.tileset.specs.Finding.{cut_to, tiles_in, look_up, found_in, placed, place_by};
 ghost use Rattle.tileset.specs.Inner.{Cuts, Finds, Looks};
 
 use crate::sets::look_says;
-use crate::{Found, Logical, Place, Set};
-use flip::Match;
+use crate::{Found, Logical, Set};
+use words::refusal::Refusal;
 
 // The pixels, cut to their low depth bits, from place at of out on.
 pub fn put_cut(depth: u32, pixels: &[u8], out: &mut [u8], at: usize)
     requires { Cuts depth pixels.now out.old at }
     ensures { out.new ≡ sets out.old at (cut_to depth pixels.now) }
 {
-    let mut i = 0;
-    while i < pixels.len() {
-        out[at + i] = words::low(words::wide(pixels[i]), depth) as u8;
-        i += 1;
+    for i in 0..pixels.len() {
+        out[at + i] = words::low(u32::from(pixels[i]), depth) as u8;
     }
 }
 
@@ -34,14 +32,10 @@ pub fn find(
     ensures { result ≡ look_up flips width height (tiles_in (width * height) store.now count) tile.now }
 {
     let n = width * height;
-    let mut k: u32 = 0;
-    while k < count {
-        let Match::Under(f) = flip::match_flip(store, (k as usize) * n, tile, width, height, flips)
-        else {
-            k += 1;
-            continue;
-        };
-        return Found::At(Logical(k), f);
+    for k in 0..count {
+        if let Some(f) = flip::match_flip(store, (k as usize) * n, tile, width, height, flips) {
+            return Found::At(Logical(k), f);
+        }
     }
     Found::Nothing
 }
@@ -64,40 +58,11 @@ pub fn found_in(set: Set, store: &[u8], pixels: &[u8]) -> Found
     )
 }
 
-fn no_place(refusal: u32) -> Place
-    ensures { result ≡ no_place refusal }
-{
-    Place {
-        refusal,
-        found: false,
-        place: 0,
-        flip_h: false,
-        flip_v: false,
-    }
-}
-
-fn place_of(found: Found) -> Place
-    ensures { result ≡ place_of found }
-{
-    let Found::At(place, f) = found else {
-        return no_place(0);
-    };
-    Place {
-        refusal: 0,
-        found: true,
-        place: place.0,
-        flip_h: f.h,
-        flip_v: f.v,
-    }
-}
-
 // Looks a tile up.
-pub fn look_up(set: Set, store: &[u8], pixels: &[u8]) -> Place
-    ensures { result ≡ placed (look_says set (length store.now) (length pixels.now)) (found_in set store.now pixels.now) }
+#[tactic(auto, using(crate::proofs::Says::look_up_rules))]
+pub fn look_up(set: Set, store: &[u8], pixels: &[u8]) -> Result<Found, Refusal>
+    ensures { place_by result ≡ placed (look_says set (length store.now) (length pixels.now)) (found_in set store.now pixels.now) }
 {
-    let refusal = look_says(set, store.len(), pixels.len());
-    if refusal != 0 {
-        return no_place(refusal);
-    }
-    place_of(found_in(set, store, pixels))
+    look_says(set, store.len(), pixels.len())?;
+    Ok(found_in(set, store, pixels))
 }

@@ -1,6 +1,6 @@
 -- An add to a title is an add to its set, with what is found among the title's tiles, and the room that its counts leave.
 -- Assumes nothing.
-use mathlib.Core.Path.{◌≡◌, refl, sym, ◌∙◌}
+use mathlib.Core.Path.{◌≡◌, refl, sym, ap, ◌∙◌}
 use mathlib.Core.Bool.{Bool, true, false, ◌||◌, or-false}
 use mathlib.Core.List.{List}
 use Prim.Native.Nat.{ℕ, ◌+◌, ◌-◌, ◌<◌, min}
@@ -8,15 +8,21 @@ use native.Mathlib.Omega.{arith}
 use lib.Dec.{leb}
 use lib.ListN.{length}
 use borrow.Author.Tests.{le-leb, lt-leb, leb-true, leb-false}
+use Rattle.std.specs.Prelude.{Result}
+use Rattle.std.specs.Result.{IsErrAnd}
+use Rattle.words.specs.Refusals.{refusal_number}
+use Rattle.words.specs.declared.refusal.Refusal.{Refusal}
 use Rattle.words.proofs.Answers.{not-given}
+use Rattle.words.proofs.Refusing.{refusal-not-done, passed_on}
 use Rattle.words.proofs.Order.{checks-first}
-use Rattle.tileset.specs.Sets.{room_in}
+use Rattle.tileset.specs.Sets.{room_in, set_answer_by}
 use Rattle.tileset.specs.Adding.{discards, no_room, end_checks}
 use Rattle.tileset.specs.Inner.{Stores, discard_answer}
 use Rattle.tileset.specs.declared.Set.{Set}
 use Rattle.tileset.specs.declared.SetAnswer.{SetAnswer}
 use Rattle.tileset.specs.declared.Found.{Found}
-use Rattle.tileset.proofs.AddingLaws.{refuse-by, stored-by, discarded-by, ends_by, store-full}
+use Rattle.tileset.proofs.AddingLaws.{discards-off, discards-new, discards-found, refuse-by, stored-by, discarded-by, ends_by, store-full}
+use Rattle.title.proofs.Says.{titled-of}
 use Rattle.title.specs.Titles.{title_found, title_checks, title_says, title_room, title_add_says, AddsToTitle}
 
 -- ---- the room
@@ -80,3 +86,10 @@ module _ (z : Set) (count : ℕ) (common store pixels : List ℕ) where
         → r ≡ discard_answer z → after ≡ store → AddsToTitle z count common store pixels r after
     unfolding title_add_says title_says
     discard-title = discarded-by firsts z found room store pixels
+
+  pub title_passed_on : (r : Result Set Refusal) (e : Refusal) → refusal_number e ≡ title_says z count (length common) (length store) (length pixels)
+      → IsErrAnd r (λ x. x ≡ e) → AddsToTitle z count common store pixels (set_answer_by z r) store
+  title_passed_on r e given is =
+      refuse-title (refusal_number e) given (refusal-not-done e) (ap (set_answer_by z) (passed_on r e is)) refl
+
+pub ruleset add_rules = (title_passed_on, store-title, discard-title, titled-of, discards-off, discards-new, discards-found)

@@ -9,11 +9,11 @@ use native.Mathlib.Omega.{arith}
 use lib.Dec.{ltb}
 use lib.ListN.{length, get_or, take, drop, length-append, length-drop, get_or-append}
 use lib.Seq.{get_or-append-add, length-take-le}
-use borrow.Author.Tests.{ltb-true, ltb-false}
+use borrow.Author.Tests.{lt-ltb, le-ltb, ltb-true, ltb-false}
+use Rattle.std.proofs.lemmas.List.Edits.{sets}
 use Rattle.words.proofs.Items.{item-inside}
 use Rattle.flip.specs.declared.Flip.{Flip}
-use Rattle.flip.specs.declared.Match.{Match}
-use Rattle.flip.specs.declared.Match.TheVariants.{Under, Never}
+use Rattle.std.specs.Prelude.{Option, Some, None}
 use Rattle.flip.proofs.Equivalence.{Takes}
 use Rattle.tileset.specs.Sets.{area}
 use Rattle.tileset.specs.Finding.{cut_to, found_or, first_found, tiles_in, look_up}
@@ -23,17 +23,24 @@ use Rattle.tileset.specs.declared.Logical.{Logical}
 use Rattle.tileset.specs.declared.Found.{Found}
 use Rattle.tileset.specs.declared.Found.TheVariants.{At, Nothing}
 use Rattle.tileset.proofs.Search.{or_else, matching, look-append, look-told}
-use Rattle.tileset.proofs.Stores.{tiles-long, tiles-at}
-use Rattle.title.specs.Titles.{common_tiles, title_tiles, title_found, after_common, is_common, place_there, part_start, part_length, part_of}
-use Rattle.title.specs.Inner.{HasPart}
+use Rattle.tileset.proofs.Stores.{tiles-long, tiles-at, cut-front}
+use Rattle.std.specs.Prelude.{Result}
+use Rattle.std.specs.Result.{IsErrAnd}
+use Rattle.words.specs.Refusals.{refusal_number}
+use Rattle.words.specs.declared.refusal.Refusal.{Refusal}
+use Rattle.words.proofs.Refusing.{refusal-not-done, passed_on}
+use Rattle.title.proofs.Says.{refused-held, done_held, titled-of}
+use Rattle.title.specs.declared.Hit.{Hit}
+use Rattle.title.specs.Titles.{title_says, hit_held, title_held_by, held_of, title_held, common_tiles, title_tiles, title_found, after_common, is_common, place_there, part_start, part_length, part_of}
+use Rattle.title.specs.Inner.{Titled, HasPart}
 
 -- ---- places among the own tiles
 
-after-or : (m : Match) (j k : ℕ) (r : Found) → found_or m (j + k) (after_common j r) ≡ after_common j (found_or m k r)
-after-or (Under f) j k r = refl
-after-or Never j k r = refl
+after-or : (m : Option Flip) (j k : ℕ) (r : Found) → found_or m (j + k) (after_common j r) ≡ after_common j (found_or m k r)
+after-or (Some f) j k r = refl
+after-or None j k r = refl
 
-found_after : (test : List ℕ → Match) (j k : ℕ) (xs : List (List ℕ)) → first_found test (j + k) xs ≡ after_common j (first_found test k xs)
+found_after : (test : List ℕ → Option Flip) (j k : ℕ) (xs : List (List ℕ)) → first_found test (j + k) xs ≡ after_common j (first_found test k xs)
 found_after test j k [] = refl
 found_after test j k (a ∷ xs) =
     ap (found_or (test a) (j + k)) (ap (λ (i : ℕ). first_found test i xs) (sym (add-suc j k)) ∙ found_after test j (suc k) xs)
@@ -155,3 +162,67 @@ module _ (z : Set) (count : ℕ) (common store : List ℕ) where
   pub part_none : part_of z count common store Nothing ≡ []
   unfolding part_of
   part_none = refl
+
+-- ---- the functions
+
+module _ (z : Set) (count : ℕ) (common store : List ℕ) where
+  -- a place among the own tiles is below their number
+  pub own_below : {r : Found} (t : List ℕ) (k : Logical) {f : Flip} → r ≡ look_up z.flips z.width z.height (set_tiles z store) t → r ≡ At k f → k.0 < z.stored
+  own_below t k e at = omega (arith, (look-told z.flips z.width z.height t (set_tiles z store) (sym e ∙ at)).0, tiles-long (area z) store z.stored)
+
+  -- where the common tiles have it, and where they do not
+  pub both_common : {r : Found} (t : List ℕ) (k : Logical) (f : Flip) → r ≡ look_up z.flips z.width z.height (common_tiles z count common) t → r ≡ At k f
+      → At k f ≡ look_up z.flips z.width z.height (title_tiles z count common store) t
+  both_common t k f e at = sym (common-first z count common store t (sym e ∙ at))
+
+  pub both_own : {r own : Found} (t : List ℕ) → r ≡ look_up z.flips z.width z.height (common_tiles z count common) t → r ≡ Nothing
+      → own ≡ after_common count (look_up z.flips z.width z.height (set_tiles z store) t)
+      → own ≡ look_up z.flips z.width z.height (title_tiles z count common store) t
+  both_own t e none own = own ∙ sym (then-own z count common store t (sym e ∙ none))
+
+  -- pixels that are cut into a buffer
+  pub cut_found : {r : Found} (p buffer : List ℕ) {tile : List ℕ} → tile ≡ sets buffer 0 (cut_to z.depth p) → length p ≤ length buffer
+      → r ≡ look_up z.flips z.width z.height (title_tiles z count common store) (take (length p) tile) → r ≡ title_found z count common store p
+  unfolding title_found
+  cut_found p buffer e long found =
+      found
+      ∙ ap (look_up z.flips z.width z.height (title_tiles z count common store)) (ap (take (length p)) e ∙ cut-front z.depth p buffer long)
+
+  -- the part in the store that has it, and none
+  module _ {found : Found} (k : Logical) (f : Flip) (is : found ≡ At k f) {at : ℕ} (here : at ≡ place_there count k.0 * area z) where
+    pub part_common : k.0 < count → take (at + area z - at) (drop at common) ≡ part_of z count common store found
+    part_common lt = cut-is z count common store k f here true (lt-ltb k.0 count lt) ∙ sym (ap (part_of z count common store) is)
+
+    pub part_own : count ≤ k.0 → take (at + area z - at) (drop at store) ≡ part_of z count common store found
+    part_own le = cut-is z count common store k f here false (le-ltb k.0 count le) ∙ sym (ap (part_of z count common store) is)
+
+  pub part_empty : {found : Found} → found ≡ Nothing → [] ≡ part_of z count common store found
+  part_empty is = sym (ap (part_of z count common store) is ∙ part_none z count common store)
+
+pub ruleset both_rules = (both_common, both_own)
+
+pub ruleset part_rules = (part_common, part_own, part_empty)
+
+-- ---- a look-up
+
+module _ (z : Set) (count : ℕ) (common store p : List ℕ) where
+  abbrev due : ℕ
+  due = title_says z count (length common) (length store) (length p)
+
+  abbrev there : Found
+  there = title_found z count common store p
+
+  pub held_refused : (r : Result (Option Hit) Refusal) (e : Refusal) → refusal_number e ≡ due → IsErrAnd r (λ x. x ≡ e)
+      → title_held_by r ≡ title_held z count common store p
+  held_refused r e given is =
+      ap title_held_by (passed_on r e is) ∙ refused-held (refusal_number e) z count there given (refusal-not-done e)
+
+  pub part_there : {found : Found} → found ≡ there → Titled z count common store p → HasPart z count common store found
+  part_there e known =
+      subst (HasPart z count common store) (sym e)
+      (has_part z count common store known.looks.small known.inside known.looks.inside there (found_inside z count common store p))
+
+  pub held_told : (h : Option Hit) {found : Found} → hit_held h ≡ held_of z count found → found ≡ there → due ≡ 0 → hit_held h ≡ title_held z count common store p
+  held_told h is e none = is ∙ ap (held_of z count) e ∙ done_held z count there none
+
+pub ruleset held_rules = (held_refused, part_there, held_told, titled-of)

@@ -3,18 +3,21 @@
 use mathlib.Core.Path.{◌≡◌, sym, ap, ◌∙◌}
 use mathlib.Core.Bool.{not}
 use mathlib.Core.List.{List, [], ◌∷◌}
-use Prim.Native.Nat.{ℕ, ◌+◌, ◌/◌, ◌<◌, ◌≤◌}
-use native.Mathlib.Nat.{le-div_iff_mul-le, mul-pos}
+use Prim.Native.Nat.{ℕ, ◌+◌, ◌*◌, ◌/◌, ◌<◌, ◌≤◌}
+use native.Mathlib.Nat.{le_trans, le-div_iff_mul-le, div-lt_iff_lt-mul, mul-pos}
 use lib.Dec.{ltb, eqb}
 use lib.ListN.{length, get_or}
 use borrow.Author.Tests.{lt-ltb, le-ltb, ltb-false, eq-eqb, ne_eqb, eqb-true, not-false}
 use Rattle.words.specs.Answers.{◌when◌}
+use Rattle.words.specs.Refusals.{refusal_number}
+use Rattle.words.specs.declared.refusal.Refusal.{Refusal}
 use Rattle.words.proofs.Answers.{all-passed, not-given, when-done, when-refused}
+use Rattle.words.proofs.Refusing.{refusal-not-done}
 use Rattle.words.proofs.Order.{checks-after, checks-first, checks-given, checks-rest}
 use Rattle.tileset.specs.Sets.{area, held_checks, held_says, look_says}
 use Rattle.tileset.specs.declared.Set.{Set}
 use Rattle.tileset.specs.declared.Found.{Found}
-use Rattle.tileset.proofs.Says.{look-0, looks-of}
+use Rattle.tileset.proofs.Says.{held-set, held-room, room_most, look-0, looks-of}
 use Rattle.title.specs.Titles.{title_says, no_held, held_of, held_by}
 use Rattle.title.specs.Inner.{Titled}
 
@@ -36,6 +39,9 @@ module _ (z : Set) (count shared len given : ℕ) where
   pub title-first : (n : ℕ) → n ≡ held_says z len → (n ≡ 0 → ⊥) → n ≡ title_says z count shared len given
   unfolding title_says held_says
   title-first n e h = checks-given (held_checks z len) others n e h
+
+  pub title_refused : (e : Refusal) → refusal_number e ≡ held_says z len → refusal_number e ≡ title_says z count shared len given
+  title_refused e h = title-first (refusal_number e) h (refusal-not-done e)
 
   module _ (held : held_says z len ≡ 0) where
     pub common-6 : shared / area z < count → 6 ≡ title_says z count shared len given
@@ -96,3 +102,20 @@ titled-of z count common store pixels fine =
           (title-stands z count (length common) (length store) (length pixels) fine);
       few = title-few z count (length common) (length store) (length pixels) fine;
     }
+
+-- a store has so many tiles, or has not
+module _ (z : Set) (len : ℕ) (held : held_says z len ≡ 0) (count shared : ℕ) where
+  pub common_short : shared < count * area z → shared / area z < count
+  common_short =
+      let s = held-set z len held in
+      (div-lt_iff_lt-mul {k = area z} (mul-pos s.some s.tall)).1
+
+  pub common_stands : count * area z ≤ shared → count ≤ shared / area z
+  common_stands =
+      let s = held-set z len held in
+      (le-div_iff_mul-le {k = area z} (mul-pos s.some s.tall)).1
+
+  pub stored_few : z.stored ≤ 65535
+  stored_few = le_trans (held-room z len held) (room_most z.limit (len / area z))
+
+pub ruleset title_rules = (title_refused, common-6, counts-6, title-7, title-0, common_short, common_stands, stored_few, held-set)

@@ -1,13 +1,14 @@
 -- The one law of every loop that fills a lent slice: items put one after the other, from a place on.
 -- Assumes nothing.
 use mathlib.Core.Path.{◌≡◌, refl, sym, ap, ◌∙◌}
-use mathlib.Core.List.{List, [], ◌∷◌, ◌++◌, append-nil}
+use mathlib.Core.List.{List, [], ◌∷◌, ◌++◌, append-nil, append_assoc}
 use Prim.Native.Nat.{ℕ, suc, ◌+◌, ◌*◌, ◌≤◌}
 use native.Mathlib.Nat.{zero-add, add-zero, add-suc, suc-add, mul-one}
 use native.Mathlib.Numerals.{add-one}
 use native.Mathlib.Omega.{arith}
 use lib.ListN.{length, get_or, set, take, drop, length-drop, drop_of_length-le}
-use lib.Seq.{sets, length-sets, ext_get_or, length-take-le, get_or-take, get_or-drop}
+use lib.Seq.{sets, sets-eq, drop-drop, length-sets, ext_get_or, length-take-le, get_or-take, get_or-drop}
+use borrow.Rule.Slice.PartMut.{put_mid}
 use Rattle.words.specs.Answers.{overwrite}
 use Rattle.words.specs.Loops.{each}
 use Rattle.words.proofs.Items.{each-eq, length-ones, number_at}
@@ -82,3 +83,7 @@ each_part l at n inside =
     (λ k lt. ap (λ (v : ℕ). v ∷ []) (sym (get_or-take n (drop at l) k 0 lt ∙ get_or-drop at l k 0)))
     ∙ ap (λ (i : ℕ). each i (λ k. get_or part k 0 ∷ [])) (sym long)
     ∙ each_of part
+
+-- what is copied into a part of a slice
+pub put_mid-sets : (a k : ℕ) (xs ys : List ℕ) → k ≡ length ys → a + length ys ≤ length xs → put_mid a k xs ys ≡ sets xs a ys
+put_mid-sets a k xs ys e le = rw (e, sets-eq ys xs a le, drop-drop, append_assoc)

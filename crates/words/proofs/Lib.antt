@@ -7,5 +7,6 @@ pub mod Filling
 pub mod Items
 pub mod Loops
 pub mod Order
+pub mod Refusing
 pub mod Results
 pub mod Starts

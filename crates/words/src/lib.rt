@@ -1,4 +1,4 @@
-// The ground floor: numbers as bits, words as bytes, and the answers of a call. Nothing of consoles.
+// The ground floor: numbers as bits, words as bytes, refusals, and what a host is told. Nothing of consoles.
 #![tactic(auto)]
 
 pub mod refusal;
@@ -6,50 +6,57 @@ pub mod refusal;
 ghost use Rattle.std.specs.Prelude.{◌≡◌, ◌+◌, ◌*◌, ◌/◌, ◌%◌, ◌^◌, ◌<◌, ◌≤◌, min, ltb, length, take, drop};
 ghost use Rattle.std.proofs.lemmas.List.Edits.{sets};
 ghost use Rattle.words.specs.Answers.{written, numbered};
+ghost use Rattle.words.specs.Refusals.{written_by, numbered_by};
 ghost use Rattle.words.specs.Bytes.{bit, bytes_of, word_of, same};
 ghost use Rattle.words.specs.Inner.{word_at, eight, byte_in, bytes_in};
 
-// What a call that writes bytes answers: document 01's number, and how many bytes it wrote.
+use crate::refusal::Refusal;
+
+// What a host is told of a call that writes bytes: document 01's number, and how many bytes it wrote.
 #[repr(C)]
-#[derive(Clone, Copy)]
+#[derive(Clone, Copy, Debug, PartialEq, Eq)]
 pub struct Written {
     pub refusal: u32,
     pub written: usize,
 }
 
-// What a call that computes one number answers.
+// What a host is told of a call that computes one number.
 #[repr(C)]
-#[derive(Clone, Copy)]
+#[derive(Clone, Copy, Debug, PartialEq, Eq)]
 pub struct Number {
     pub refusal: u32,
     pub value: u32,
 }
 
-pub fn refused(refusal: u32) -> Written
-    ensures { result ≡ written refusal 0 }
-{
-    Written {
-        refusal,
-        written: 0,
+impl From<Result<usize, Refusal>> for Written {
+    ghost from_gives = { λ r w. w ≡ written_by r };
+
+    fn from(answer: Result<usize, Refusal>) -> Written {
+        match answer {
+            Ok(written) => Written {
+                refusal: 0,
+                written,
+            },
+            Err(refusal) => Written {
+                refusal: refusal.number(),
+                written: 0,
+            },
+        }
     }
 }
 
-pub fn no_number(refusal: u32) -> Number
-    ensures { result ≡ numbered refusal 0 }
-{
-    Number { refusal, value: 0 }
-}
+impl From<Result<u32, Refusal>> for Number {
+    ghost from_gives = { λ r n. n ≡ numbered_by r };
 
-pub fn wide(b: u8) -> u32
-    ensures { (result ≡ b) × (result < 256) }
-{
-    b as u32
-}
-
-pub fn least(a: usize, b: usize) -> usize
-    ensures { result ≡ min a b }
-{
-    if a <= b { a } else { b }
+    fn from(answer: Result<u32, Refusal>) -> Number {
+        match answer {
+            Ok(value) => Number { refusal: 0, value },
+            Err(refusal) => Number {
+                refusal: refusal.number(),
+                value: 0,
+            },
+        }
+    }
 }
 
 // Whether some bits can hold x.
@@ -58,13 +65,6 @@ pub fn holds(bits: u32, x: u32) -> bool
     ensures { result ≡ ltb x (2 ^ bits) }
 {
     down(x, bits) == 0
-}
-
-// A bool as a bit.
-pub fn flag(b: bool) -> u32
-    ensures { (result ≡ bit b) × (result < 2) }
-{
-    if b { 1 } else { 0 }
 }
 
 // x, moved up by some places.
@@ -116,11 +116,11 @@ pub fn get_word(s: &[u8], at: usize, size: usize, most: bool) -> u32
     requires { (at + size ≤ length s.now) × (0 < size) × (size ≤ 2) }
     ensures { (result ≡ word_of most (take size (drop at s.now))) × (result < 65536) }
 {
-    let first = wide(s[at]);
+    let first = u32::from(s[at]);
     if size == 1 {
         return first;
     }
-    let second = wide(s[at + 1]);
+    let second = u32::from(s[at + 1]);
     if most {
         second + 256 * first
     } else {
@@ -132,17 +132,7 @@ pub fn get_word(s: &[u8], at: usize, size: usize, most: bool) -> u32
 pub fn same_bytes(a: &[u8], b: &[u8]) -> bool
     ensures { result ≡ same a.now b.now }
 {
-    if a.len() != b.len() {
-        return false;
-    }
-    let mut i = 0;
-    while i < a.len() {
-        if a[i] != b[i] {
-            return false;
-        }
-        i += 1;
-    }
-    true
+    a == b
 }
 
 // The bytes, from place at of out on.
@@ -150,18 +140,7 @@ pub fn put(out: &mut [u8], at: usize, bytes: &[u8])
     requires { at + length bytes.now ≤ length out.old }
     ensures { out.new ≡ sets out.old at bytes.now }
 {
-    let mut i = 0;
-    while i < bytes.len() {
-        out[at + i] = bytes[i];
-        i += 1;
-    }
-}
-
-// A byte as a number that has room for eight of them.
-pub fn widen(b: u8) -> u64
-    ensures { (result ≡ b) × (result < 256) }
-{
-    b as u64
+    out[at..at + bytes.len()].copy_from_slice(bytes);
 }
 
 // Eight bytes as one number, the first the least.
@@ -177,14 +156,14 @@ pub fn word_at(s: &[u8], at: usize, back: bool) -> u64
     requires { at + 8 ≤ length s.now }
     ensures { result ≡ word_at back s.now at }
 {
-    let a = widen(s[at]);
-    let b = widen(s[at + 1]);
-    let c = widen(s[at + 2]);
-    let d = widen(s[at + 3]);
-    let e = widen(s[at + 4]);
-    let f = widen(s[at + 5]);
-    let g = widen(s[at + 6]);
-    let h = widen(s[at + 7]);
+    let a = u64::from(s[at]);
+    let b = u64::from(s[at + 1]);
+    let c = u64::from(s[at + 2]);
+    let d = u64::from(s[at + 3]);
+    let e = u64::from(s[at + 4]);
+    let f = u64::from(s[at + 5]);
+    let g = u64::from(s[at + 6]);
+    let h = u64::from(s[at + 7]);
     if back {
         return word(h, g, f, e, d, c, b, a);
     }
@@ -203,10 +182,8 @@ pub fn put_bytes(out: &mut [u8], at: usize, w: u64)
     requires { at + 8 ≤ length out.old }
     ensures { out.new ≡ sets out.old at (bytes_in w) }
 {
-    let mut m = 0;
-    while m < 8 {
+    for m in 0..8 {
         out[at + m] = byte(w, m);
-        m += 1;
     }
 }
 

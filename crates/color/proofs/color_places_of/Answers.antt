@@ -1,77 +1,58 @@
 -- Each arm has the places that its mode's fields give.
 use mathlib.Core.Path.{◌≡◌, sym, ap, ◌∙◌}
-use Prim.Native.Nat.{ℕ, ◌<◌}
+use mathlib.Core.Bool.{Bool}
+use Prim.Native.Nat.{ℕ}
 use native.Mathlib.Omega.{arith}
+use Rattle.words.specs.Inner.{bits_for, start_of}
 use Rattle.mode.specs.Table.{row}
 use Rattle.color.specs.Color.{coloring}
-use Rattle.color.specs.Inner.{places_in, places_of, Sound}
-use Rattle.color.specs.declared.ColorPlaces.{ColorPlaces}
-use Rattle.color.proofs.Places.{with-sound}
+use Rattle.color.proofs.Places.{some-bytes, few-bits, start-inside}
 use Rattle.color.proofs.color_places_of.Goals as goal
+use Rattle.color.proofs.color_places_of.Goals.{After-top}
+use Rattle.color.proofs.color_places_of.Goals.{in-SNES, in-SNES_MODE7, in-GB, in-GBC, in-GBA, in-GBA_AFFINE, in-MD, in-SMS, in-GG, in-PCE, in-PCE_SPRITE, in-NGP, in-NGPC, in-WS, in-WSC, in_default}
 
-arm : {r : ColorPlaces} (k : ℕ) {m top : ℕ} → m < 16 → top ≡ (row m).top → r ≡ places_in (coloring k) top → m ≡ k → (r ≡ places_of m) × Sound r
-arm k {m} {top} h t e is = with-sound m h (e ∙ ap (λ (i : ℕ). places_in (coloring i) top) (sym is) ∙ ap (λ (i : ℕ). places_in (coloring m) i) t)
+-- the table's row of a mode
+abbrev Row : Type 0
+Row = Bool × Bool × ℕ × Bool × ℕ × ℕ × ℕ × ℕ × ℕ
 
-pub returns-in-0 : goal.returns-in-0
+abbrev row_of : ℕ → Row
+row_of m =
+    let c = coloring m in
+    let start : ℕ → ℕ = λ k. start_of 0 k c.fields in
+    (c.gray, c.four, c.size, c.most, bits_for 0 c.fields, start 0, start 1, start 2, start 3)
+
+arm : (k : ℕ) {m : ℕ} {t : Row} → t ≡ row_of k → m ≡ k → t ≡ row_of m
+arm k e is = e ∙ ap row_of (sym is)
+
+right : (c : After-top) → c.match-m.gray ≡ row_of c.number.result
 unfolding coloring
-returns-in-0 c = arm 0 c.requires c.top-top.ensures c.laid.ensures c.in-0.is
+right c = elim c.match-m.branch [ in-SNES w ↦ arm 0 w.gray-is (omega arith) | in-SNES_MODE7 w ↦ arm 1 w.gray-is (omega arith) | in-GB w ↦ arm 2 w.gray-is (omega arith) | in-GBC w ↦ arm 3 w.gray-is (omega arith) | in-GBA w ↦ arm 4 w.gray-is (omega arith) | in-GBA_AFFINE w ↦ arm 5 w.gray-is (omega arith) | in-MD w ↦ arm 6 w.gray-is (omega arith) | in-SMS w ↦ arm 7 w.gray-is (omega arith) | in-GG w ↦ arm 8 w.gray-is (omega arith) | in-PCE w ↦ arm 9 w.gray-is (omega arith) | in-PCE_SPRITE w ↦ arm 10 w.gray-is (omega arith) | in-NGP w ↦ arm 11 w.gray-is (omega arith) | in-NGPC w ↦ arm 12 w.gray-is (omega arith) | in-WS w ↦ arm 13 w.gray-is (omega arith) | in-WSC w ↦ arm 14 w.gray-is (omega arith) | in_default w ↦ arm 15 w.gray-is (omega arith) ]
 
-pub returns-in-1 : goal.returns-in-1
-unfolding coloring
-returns-in-1 c = arm 1 c.requires c.top-top.ensures c.laid-in-1.ensures c.in-1.is
-
-pub returns-in-2 : goal.returns-in-2
-unfolding coloring
-returns-in-2 c = arm 2 c.requires c.top-top.ensures c.laid-in-2.ensures c.in-2.is
-
-pub returns-in-3 : goal.returns-in-3
-unfolding coloring
-returns-in-3 c = arm 3 c.requires c.top-top.ensures c.laid-in-3.ensures c.in-3.is
-
-pub returns-in-4 : goal.returns-in-4
-unfolding coloring
-returns-in-4 c = arm 4 c.requires c.top-top.ensures c.laid-in-4.ensures c.in-4.is
-
-pub returns-in-5 : goal.returns-in-5
-unfolding coloring
-returns-in-5 c = arm 5 c.requires c.top-top.ensures c.laid-in-5.ensures c.in-5.is
-
-pub returns-in-6 : goal.returns-in-6
-unfolding coloring
-returns-in-6 c = arm 6 c.requires c.top-top.ensures c.laid-in-6.ensures c.in-6.is
-
-pub returns-in-7 : goal.returns-in-7
-unfolding coloring
-returns-in-7 c = arm 7 c.requires c.top-top.ensures c.laid-in-7.ensures c.in-7.is
-
-pub returns-in-8 : goal.returns-in-8
-unfolding coloring
-returns-in-8 c = arm 8 c.requires c.top-top.ensures c.laid-in-8.ensures c.in-8.is
-
-pub returns-in-9 : goal.returns-in-9
-unfolding coloring
-returns-in-9 c = arm 9 c.requires c.top-top.ensures c.laid-in-9.ensures c.in-9.is
-
-pub returns-in-10 : goal.returns-in-10
-unfolding coloring
-returns-in-10 c = arm 10 c.requires c.top-top.ensures c.laid-in-10.ensures c.in-10.is
-
-pub returns-in-11 : goal.returns-in-11
-unfolding coloring
-returns-in-11 c = arm 11 c.requires c.top-top.ensures c.laid-in-11.ensures c.in-11.is
-
-pub returns-in-12 : goal.returns-in-12
-unfolding coloring
-returns-in-12 c = arm 12 c.requires c.top-top.ensures c.laid-in-12.ensures c.in-12.is
-
-pub returns-in-13 : goal.returns-in-13
-unfolding coloring
-returns-in-13 c = arm 13 c.requires c.top-top.ensures c.laid-in-13.ensures c.in-13.is
-
-pub returns-in-14 : goal.returns-in-14
-unfolding coloring
-returns-in-14 c = arm 14 c.requires c.top-top.ensures c.laid-in-14.ensures c.in-14.is
-
-pub returns-in_default : goal.returns-in_default
-unfolding coloring
-returns-in_default c = arm 15 {m = c.args.m.0} c.requires c.top-top.ensures c.laid-in_default.ensures (omega arith)
+pub invariant_of-result : goal.invariant_of-result
+invariant_of-result c =
+    let m = c.number.result in
+    let h = c.number.ensures.1 in
+    let e = right c in
+    let top : c.top.result ≡ (row m).top = rw c.number.ensures.0 c.top.ensures in
+    let size : c.match-m.gray.2 ≡ (coloring m).size = ap (λ (r : Row). r.2) e in
+    let bits : c.match-m.gray.4 ≡ bits_for 0 (coloring m).fields = ap (λ (r : Row). r.4) e in
+    let first : c.match-m.gray.5 ≡ start_of 0 0 (coloring m).fields = ap (λ (r : Row). r.5) e in
+    let second : c.match-m.gray.6 ≡ start_of 0 1 (coloring m).fields = ap (λ (r : Row). r.6) e in
+    let third : c.match-m.gray.7 ≡ start_of 0 2 (coloring m).fields = ap (λ (r : Row). r.7) e in
+    let fourth : c.match-m.gray.8 ≡ start_of 0 3 (coloring m).fields = ap (λ (r : Row). r.8) e in
+    record {
+      is_mode = h;
+      gray_is = ap (λ (r : Row). r.0) e;
+      four_is = ap (λ (r : Row). r.1) e;
+      size_is = size;
+      most_is = ap (λ (r : Row). r.3) e;
+      top_is = top;
+      bits_are = bits;
+      first_is = first;
+      second_is = second;
+      third_is = third;
+      fourth_is = fourth;
+      bytes = rw size (some-bytes m h);
+      component = rw (top, bits) (few-bits m h);
+      inside = rw (first, second, third, fourth) (start-inside m h 0 (omega arith), start-inside m h 1 (omega arith), start-inside m h 2 (omega arith), start-inside m h 3 (omega arith));
+    }

@@ -1,76 +1,71 @@
 -- A refusal leaves the bytes as they were; otherwise they begin with the packed colours.
-use mathlib.Core.Path.{◌≡◌, refl, sym, ap, ◌∙◌}
-use Prim.Native.Nat.{ℕ, ◌*◌, ◌/◌, ◌≤◌}
-use native.Mathlib.Nat.{suc-ne-zero}
+use mathlib.Core.Path.{◌≡◌, sym, ap, ◌∙◌}
+use Prim.Native.Nat.{ℕ, ◌≤◌}
 use native.Mathlib.Omega.{arith}
 use lib.ListN.{length}
-use Rattle.words.specs.Answers.{written}
-use Rattle.words.proofs.Answers.{refuse, done}
 use Rattle.words.proofs.Loops.{sets-front}
 use Rattle.color.specs.Color.{pack_says, packed}
-use Rattle.color.proofs.Packing.{Packs, packs, four-within, words-within, pack-no-mode, packs-says, packs-size, packs-four, packs-words}
+use Rattle.words.specs.Answers.{written}
+use Rattle.words.proofs.Answers.{done}
+use Rattle.words.proofs.Refusing.{wrote_refused}
+use Rattle.color.proofs.Packing.{Packs, packs, four-within, words-within, pack-no-mode, length-packed, packs-size, packs-four, packs-words}
 use Rattle.color.proofs.pack_colors.Goals as goal
-use Rattle.color.proofs.pack_colors.Goals.{After-packed_size-written, Else-refusal-ne0}
+use Rattle.color.proofs.pack_colors.Goals.{In_ok-size}
 
 -- what the checks leave
-passed : (c : Else-refusal-ne0) → Packs c.color_places_of-places.result c.args.colors.now (length c.args.out.now)
-passed c = packs c.color_places_of-places.result c.args.colors.now (length c.args.out.now) (sym c.pack_says-refusal.ensures ∙ c.if-refusal-ne0.false)
+passed : (c : In_ok-size) → Packs c.color_places_of-places.result.mode c.args.colors.now (length c.args.out.now)
+passed c =
+    packs c.color_places_of-places.result.mode c.args.colors.now (length c.args.out.now) (sym c.in_ok-size.ensures.says)
 
-none-due : (c : Else-refusal-ne0) → pack_says c.args.mode c.args.colors.now (length c.args.out.now) ≡ 0
-none-due c =
-    let a = c.args in
-    sym (packs-says a.mode (omega arith) a.colors.now c.color_places_of-places.result c.color_places_of-places.ensures.0 (length a.out.now)) ∙ sym c.pack_says-refusal.ensures ∙ c.if-refusal-ne0.false
+fits : (c : In_ok-size) → length (packed c.color_places_of-places.result.mode c.args.colors.now) ≤ length c.args.out.now
+fits c = rw (length-packed c.color_places_of-places.result.mode c.args.colors.now) (passed c).fits
 
-sized : (c : After-packed_size-written) → c.packed_size-written.result ≡ length (packed c.args.mode c.args.colors.now)
-sized c =
-    let a = c.args in
-    c.packed_size-written.ensures ∙ packs-size a.mode (omega arith) a.colors.now c.color_places_of-places.result c.color_places_of-places.ensures.0
+sized : (c : In_ok-size) → c.in_ok-size.size ≡ length (packed c.color_places_of-places.result.mode c.args.colors.now)
+sized c = c.in_ok-size.ensures.size ∙ packs-size c.color_places_of-places.result c.args.colors.now
 
-pub returns-then-mode-gt15 : goal.returns-then-mode-gt15
-returns-then-mode-gt15 c =
+pub returns-in_err-try_from : goal.returns-in_err-try_from
+returns-in_err-try_from c =
     let a = c.args in
-    refuse 1 (sym (pack-no-mode a.mode a.colors.now (length a.out.now) c.if-mode-gt15.true)) (suc-ne-zero 0) c.refused.ensures refl
-
-pub returns-then-refusal-ne0 : goal.returns-then-refusal-ne0
-returns-then-refusal-ne0 c =
-    let a = c.args in
-    refuse c.pack_says-refusal.result
-    (c.pack_says-refusal.ensures ∙ packs-says a.mode (omega arith) a.colors.now c.color_places_of-places.result c.color_places_of-places.ensures.0 (length a.out.now))
-    c.if-refusal-ne0.true c.refused-then-refusal-ne0.ensures refl
+    let e = c.in_err-try_from.ensures in
+    wrote_refused (pack_says a.mode a.colors.now (length a.out.now)) (packed a.mode a.colors.now) a.out.now c.from_residual.result c.in_err-try_from.field-0.0
+    (rw (e.0, pack-no-mode a.mode a.colors.now (length a.out.now) e.1)) c.from_residual.ensures.1
 
 pub four_word-requires : goal.four_word-requires
 four_word-requires c =
-    let a = c.args in
-    (c.color_places_of-places.ensures.1, four-within c.color_places_of-places.result a.colors.now (length a.out.now) (passed (goal.at.four_word-requires c).Else-refusal-ne0) c.if-places.true)
+    four-within c.color_places_of-places.result c.args.colors.now (length c.args.out.now) (passed (goal.at.four_word-requires c).In_ok-size) c.if-places.true
 
 pub put_word-requires : goal.put_word-requires
 put_word-requires c =
-    let fits = rw c.if-places.true at (passed (goal.at.put_word-requires c).Else-refusal-ne0).fits in
-    let l = c.color_places_of-places in
-    (omega arith, l.ensures.1.some, l.ensures.1.few)
+    let l = c.color_places_of-places.result in
+    let size = rw c.if-places.true at (packs-size l c.args.colors.now) in
+    (omega (arith, fits (goal.at.put_word-requires c).In_ok-size), l.bytes.0, l.bytes.1)
+
+pub put_words-requires-clause-within : goal.put_words-requires-clause-within
+put_words-requires-clause-within c =
+    words-within c.color_places_of-places.result c.args.colors.now (length c.args.out.now) (passed (goal.at.put_words-requires-clause-within c).In_ok-size)
+
+pub put_words-requires-clause-space : goal.put_words-requires-clause-space
+put_words-requires-clause-space c =
+    let size = rw c.if-places.false at (packs-size c.color_places_of-places.result c.args.colors.now) in
+    rw size (fits (goal.at.put_words-requires-clause-space c).In_ok-size)
 
 pub returns-then-places : goal.returns-then-places
 returns-then-places c =
     let a = c.args in
-    let l = c.color_places_of-places in
-    let bytes = packed a.mode a.colors.now in
-    let space : length bytes ≤ length a.out.now = omega (arith, (passed (goal.at.returns-then-places c).Else-refusal-ne0).fits, sized (goal.at.returns-then-places c).After-packed_size-written, c.packed_size-written.ensures) in
-    done (none-due (goal.at.returns-then-places c).Else-refusal-ne0) (ap (λ (n : ℕ). written 0 n) (sized (goal.at.returns-then-places c).After-packed_size-written))
-    (c.put_word.ensures ∙ rw (c.four_word.ensures, packs-four a.mode (omega arith) a.colors.now l.result l.ensures.0 c.if-places.true) (sets-front a.out.now bytes space))
+    let l = c.color_places_of-places.result in
+    let is = c.color_places_of-places.ensures ∙ c.in_ok-try_from.ensures.0 in
+    let passed = (goal.at.returns-then-places c).In_ok-size in
+    rw (← is)
+    (done (sym c.in_ok-size.ensures.says) (ap (λ (n : ℕ). written 0 n) (sized passed))
+    (c.put_word.ensures ∙ rw (c.four_word.ensures, packs-four l a.colors.now c.if-places.true) (sets-front a.out.now (packed l.mode a.colors.now) (fits passed))))
 
-pub put_words-requires : goal.put_words-requires
-put_words-requires c =
+pub returns-else-places : goal.returns-else-places
+returns-else-places c =
     let a = c.args in
-    let l = c.color_places_of-places in
-    let p = passed (goal.at.put_words-requires c).Else-refusal-ne0 in
-    (l.ensures.1, words-within l.result a.colors.now (length a.out.now) p, rw c.if-places.false at p.fits)
-
-pub returns : goal.returns
-returns c =
-    let a = c.args in
-    let l = c.color_places_of-places in
-    let n = length a.colors.now / 4 in
-    let bytes = packed a.mode a.colors.now in
-    let size : n * l.result.size ≡ length bytes = rw c.if-places.false at (sym c.packed_size-written.ensures ∙ sized (goal.at.returns c).After-packed_size-written) in
-    done (none-due (goal.at.returns c).Else-refusal-ne0) (ap (λ (k : ℕ). written 0 k) (sized (goal.at.returns c).After-packed_size-written))
-    (c.put_words.ensures ∙ rw (packs-words a.mode (omega arith) a.colors.now l.result l.ensures.0 c.if-places.false (passed (goal.at.returns c).Else-refusal-ne0).low, size))
+    let l = c.color_places_of-places.result in
+    let is = c.color_places_of-places.ensures ∙ c.in_ok-try_from.ensures.0 in
+    let ok = (goal.at.returns-else-places c).In_ok-size in
+    let size = rw c.if-places.false at (packs-size l a.colors.now) in
+    let low = rw (← l.top_is) at (passed ok).low in
+    rw (← is)
+    (done (sym c.in_ok-size.ensures.says) (ap (λ (n : ℕ). written 0 n) (sized ok)) (c.put_words.ensures ∙ rw (packs-words l a.colors.now c.if-places.false low, size)))

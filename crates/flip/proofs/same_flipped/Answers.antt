@@ -3,7 +3,6 @@ use mathlib.Core.Bool.{true, false}
 use Prim.Native.Nat.{ℕ, ◌*◌, ◌≤◌, ◌+◌}
 use native.Mathlib.Omega.{arith}
 use borrow.Author.Count.{below_more}
-use borrow.Author.Rules.{rules}
 use Rattle.flip.specs.Flips.{turned}
 use Rattle.flip.specs.Inner.{RowAs}
 use Rattle.flip.proofs.Rows.{row_inside, rows_agree, row-differs, row_told}
@@ -15,9 +14,6 @@ store-row c = row_inside c.args.width c.args.height c.turned.result c.turned.ens
 
 tile-row : (c : After-turned) → c.loop-y.y * c.args.width + c.args.width ≤ c.args.width * c.args.height
 tile-row c = row_inside c.args.width c.args.height c.loop-y.y c.loop-y-test.true
-
-pub loop-y-init : goal.loop-y-init
-loop-y-init c = (search rules, λ k p. absurd (omega arith))
 
 pub overflow_mul-from : goal.overflow_mul-from
 overflow_mul-from c = omega (arith, store-row c)
@@ -40,11 +36,9 @@ returns-then-not-same_row c =
 pub loop-y-preserved : goal.loop-y-preserved
 loop-y-preserved c =
     let row = c.same_row in
-    let s = c.args in (
-      search rules,
-      below_more (λ (k : ℕ). RowAs s.f.h s.store.now (s.at + turned s.f.v s.height k * s.width) s.tile.now (k * s.width) s.width true) _ c.loop-y.invariant.1
-          (row_told _ _ _ _ _ _ _ _ row.result true c.turned.ensures.0 c.if-not-same_row.false row.ensures),
-    )
+    let s = c.args in
+    below_more (λ (k : ℕ). RowAs s.f.h s.store.now (s.at + turned s.f.v s.height k * s.width) s.tile.now (k * s.width) s.width true) _ c.loop-y.invariant
+    (row_told _ _ _ _ _ _ _ _ row.result true c.turned.ensures.0 c.if-not-same_row.false row.ensures)
 
 pub returns : goal.returns
-returns c = sym (rows_agree c.args.f _ _ _ _ _ c.requires (λ k p. c.loop-y.invariant.1 k (omega arith)))
+returns c = sym (rows_agree c.args.f _ _ _ _ _ c.requires (λ k p. c.loop-y.invariant k (omega arith)))

@@ -3,13 +3,8 @@ use mathlib.Core.Path.{refl}
 use Prim.Native.Nat.{◌≤◌}
 use native.Mathlib.Nat.{mul-le-mul}
 use native.Mathlib.Omega.{arith}
-use Rattle.index.specs.Inner.{mix}
+use Rattle.index.specs.Keys.{mix}
 use Rattle.index.proofs.mixed.Goals as goal
-
-pub overflow_mul-result : goal.overflow_mul-result
-overflow_mul-result c =
-    let p : c.args.a ≤ 4294967295 = omega arith in
-    omega (arith, mul-le-mul {n₁ = c.args.a} {m₁ = c.args.a} {n₂ = 4294967295} {m₂ = 4294967295} p p)
 
 pub returns : goal.returns
 unfolding mix

@@ -4,30 +4,19 @@ use Prim.Native.Nat.{ℕ, ◌+◌, ◌*◌}
 use native.Mathlib.Omega.{arith}
 use lib.Seq.{sets}
 use Rattle.words.specs.Inner.{eight}
-use Rattle.words.proofs.Filling.{filled_none, filled_more, filled-all}
+use Rattle.words.proofs.Filling.{filled_more, filled-all}
 use Rattle.flip.proofs.Group.{flipped-rows}
-use borrow.Author.Rules.{rules}
 use Rattle.picture.proofs.put_flipped.Goals as goal
-
-pub loop-y-init : goal.loop-y-init
-loop-y-init c = (omega arith, filled_none _ _ _)
-
-pub put_eight-requires : goal.put_eight-requires
-put_eight-requires c =
-    let p = c.requires in
-    (omega (arith, c.turned-row.ensures.1, p.0), omega (arith, p.1, c.loop-y.invariant.1.long, c.loop-y-test.true))
 
 pub loop-y-preserved : goal.loop-y-preserved
 loop-y-preserved c =
     let l = c.loop-y in
-    let a = c.args in (
-      search rules,
-      filled_more 8 (λ y. refl) l.invariant.1
-          (c.put_eight.ensures
-          ∙ ap (λ (k : ℕ). sets l.out (a.at + l.y * 8) (eight a.f.h a.tile.now (k * 8))) c.turned-row.ensures.0),
-    )
+    let a = c.args in
+    filled_more 8 (λ y. refl) l.invariant
+    (c.put_eight.ensures
+    ∙ ap (λ (k : ℕ). sets l.out (a.at + l.y * 8) (eight a.f.h a.tile.now (k * 8))) c.turned-row.ensures.0)
 
 pub returns : goal.returns
 returns c =
     let a = c.args in
-    filled-all 8 c.loop-y.invariant.1 (omega arith) ∙ ap (λ (l : List ℕ). sets a.out.now a.at l) (flipped-rows a.f 8 8 a.tile.now)
+    filled-all 8 c.loop-y.invariant (omega arith) ∙ ap (λ (l : List ℕ). sets a.out.now a.at l) (flipped-rows a.f 8 8 a.tile.now)

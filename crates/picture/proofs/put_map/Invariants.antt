@@ -1,5 +1,5 @@
 -- The first i of the entries are put.
-use Prim.Native.Nat.{◌≤◌, ◌-◌, ◌*◌}
+use Prim.Native.Nat.{◌*◌}
 use lib.ListN.{get_or}
 use Rattle.words.proofs.Filling.{Filled}
 use Rattle.mode.specs.Table.{row}
@@ -9,7 +9,4 @@ use Rattle.picture.proofs.put_map.Given as goal
 
 abbrev pub invariant-loop-i : goal.invariant-loop-i
 invariant-loop-i l =
-    (l.i ≤ l.count) × Filled (λ i. entry_bytes l.mode (entry_coded l.mode l.palette (get_or l.codes i 0))) l.initial.map (l.first * (row l.mode).entry) l.i l.map
-
-abbrev pub decreases-loop-i : goal.decreases-loop-i
-decreases-loop-i l = l.count - l.i
+    Filled (λ i. entry_bytes l.m (entry_coded l.m l.palette (get_or l.codes i 0))) l.initial.map (l.first * (row l.m).entry) l.i l.map

@@ -1,13 +1,13 @@
 use mathlib.Core.Path.{◌≡◌, sym, ap, ◌∙◌, subst}
 use mathlib.Core.List.{List}
-use Prim.Native.Nat.{ℕ, ◌<◌, ◌≤◌, ◌+◌, ◌*◌}
+use Prim.Native.Nat.{ℕ, ◌<◌, ◌≤◌, ◌+◌, ◌-◌, ◌*◌}
 use native.Mathlib.Nat.{add-mul}
 use native.Mathlib.Omega.{arith}
 use lib.ListN.{length, get_or}
 use lib.Seq.{sets, take_all}
-use Rattle.words.proofs.Filling.{filled_none, filled_more, filled-all}
+use Rattle.words.proofs.Filling.{Filled, filled_more}
 use Rattle.words.proofs.Items.{item-inside}
-use Rattle.tile.specs.Tile.{packed}
+use Rattle.tile.specs.Tile.{packed, packing_of}
 use Rattle.tile.proofs.Native.{Native}
 use Rattle.tileset.proofs.WritingLaws.{packs-at, packs_bytes}
 use Rattle.picture.specs.Converting.{places}
@@ -17,91 +17,56 @@ use Rattle.picture.proofs.Converted.{packed-size}
 use Rattle.picture.proofs.Kept.{length-cut_tile}
 use Rattle.picture.proofs.Taking.{has-tile}
 use Rattle.picture.proofs.put_tiles.Goals as goal
-use Rattle.picture.proofs.put_tiles.Goals.{After-place, After-take_tile-tile, In-loop-k, Start}
+use Rattle.picture.proofs.put_tiles.Goals.{After-packing_of-p, After-take_tile-tile, In-loop-k, Start}
+
+packing : (c : After-packing_of-p) → c.packing_of-p.result ≡ packing_of c.args.settings.mode c.args.settings.depth 8 8
+packing c = c.packing_of-p.ensures ∙ ap (λ m. packing_of m c.args.settings.depth 8 8) c.at.ensures
 
 tiled : (c : Start) → Native c.args.settings.mode c.args.settings.depth 8 8
 tiled c = let s = c.requires.stored.picture in native-tile s.mode s.map s.depth
 
+-- tile k of those that are put
 abbrev tile : (c : Start) → ℕ → List ℕ
-tile c k = tile_at c.args.settings c.args.pixels.now (get_or c.args.from.now (c.args.held + k) 0)
+tile c k = tile_at c.args.settings c.args.pixels.now (get_or c.args.store.now.from (c.args.store.now.held + k) 0)
 
 size_is : (c : Start) → (k : ℕ) → length (packed c.args.settings.mode c.args.settings.depth 8 8 (tile c k)) ≡ (c.args.settings.depth * 8)
 size_is c k = packed-size (tiled c) (tile c k)
 
-below : (c : In-loop-k) → c.args.held + c.loop-k.k < 4096
-below c = omega (arith, c.loop-k-test.true, c.requires.stored.few)
-
-space : (c : In-loop-k) → (c.args.held + c.loop-k.k) * (c.args.settings.depth * 8) + (c.args.settings.depth * 8) ≤ length c.args.tiles.now
-space c =
-    let a = c.args in
-    omega (arith, item-inside (c.args.settings.depth * 8) (a.held + a.more) (a.held + c.loop-k.k) (omega (arith, c.loop-k-test.true)), c.requires.space)
-
-inside : (c : After-place) → c.place.result < places c.args.settings
-inside c =
-    subst (λ (n : ℕ). n < places c.args.settings) (sym c.place.ensures)
-    (c.requires.stored.taken (c.args.held + c.loop-k.k) (omega arith) (omega (arith, c.loop-k-test.true)))
-
-taken : (c : After-take_tile-tile) → c.take_tile-tile.result ≡ tile_at c.args.settings c.args.pixels.now (get_or c.args.from.now (c.args.held + c.loop-k.k) 0)
-taken c =
-    let a = c.args in
-    c.take_tile-tile.ensures ∙ ap (tile_at a.settings a.pixels.now) c.place.ensures
+space : (c : In-loop-k) → c.loop-k.k * (c.args.settings.depth * 8) + (c.args.settings.depth * 8) ≤ length c.args.tiles.now
+space c = omega (arith, item-inside (c.args.settings.depth * 8) c.args.store.now.count c.loop-k.k c.loop-k-test.true, c.requires.space)
 
 whole : (c : After-take_tile-tile) → length c.take_tile-tile.result ≡ 64
 whole c = ap length c.take_tile-tile.ensures ∙ length-cut_tile _ 8 8 _ _ _
 
-pub packing_of-p-requires : goal.packing_of-p-requires
-packing_of-p-requires c = c.requires.stored.picture.mode
-
-pub overflow_mul-size : goal.overflow_mul-size
-overflow_mul-size c = omega (arith, c.requires.stored.picture.deep)
-
-pub overflow_cast-size : goal.overflow_cast-size
-overflow_cast-size c = omega (arith, c.requires.stored.picture.deep)
-
-pub loop-k-init : goal.loop-k-init
-loop-k-init c = (omega arith, filled_none _ _ _)
-
-pub overflow_add-held : goal.overflow_add-held
-overflow_add-held c = omega (arith, below c)
-
-pub offset_bounds-from-held : goal.offset_bounds-from-held
-offset_bounds-from-held c = omega (arith, below c)
-
-pub bounds-from-held : goal.bounds-from-held
-bounds-from-held c = omega (arith, below (goal.at.bounds-from-held c).In-loop-k)
-
 pub take_tile-tile-requires : goal.take_tile-tile-requires
-take_tile-tile-requires c = has-tile c.requires.stored.picture c.place.result (inside c)
-
-pub overflow_add-held-in-loop-k : goal.overflow_add-held-in-loop-k
-overflow_add-held-in-loop-k c = omega (arith, below (goal.at.overflow_add-held-in-loop-k c).In-loop-k)
-
-pub overflow_mul-held : goal.overflow_mul-held
-overflow_mul-held c = omega (arith, space (goal.at.overflow_mul-held c).In-loop-k)
+take_tile-tile-requires c =
+    let inside : c.from.result < places c.args.settings =
+    subst (λ (n : ℕ). n < places c.args.settings) (sym c.from.ensures) (c.requires.stored.taken c.loop-k.k (omega arith) c.loop-k-test.true) in
+    has-tile c.requires.stored.picture c.from.result inside
 
 pub put_tile-requires : goal.put_tile-requires
 put_tile-requires c =
-    packs-at c.packing_of-p.ensures (tiled (goal.at.put_tile-requires c).Start) _ _ _ _ (omega (arith, whole (goal.at.put_tile-requires c).After-take_tile-tile))
-    (omega (arith, space (goal.at.put_tile-requires c).In-loop-k, c.loop-k.invariant.1.long))
-
-pub overflow_add-k : goal.overflow_add-k
-overflow_add-k c = omega (arith, below (goal.at.overflow_add-k c).In-loop-k)
+    packs-at (packing (goal.at.put_tile-requires c).After-packing_of-p) (tiled (goal.at.put_tile-requires c).Start) _ _ _ _
+    (omega (arith, whole (goal.at.put_tile-requires c).After-take_tile-tile))
+    (omega (arith, space (goal.at.put_tile-requires c).In-loop-k, c.loop-k.invariant.long))
 
 pub loop-k-preserved : goal.loop-k-preserved
 loop-k-preserved c =
     let z = c.args.settings in
     let lp = c.loop-k in
-    let due = packed z.mode z.depth 8 8 (tile (goal.at.loop-k-preserved c).Start lp.k) in (
-      omega (arith, c.loop-k-test.true),
-      filled_more (c.args.settings.depth * 8) (size_is (goal.at.loop-k-preserved c).Start) lp.invariant.1
-          (c.put_tile.ensures
-          ∙ ap (sets lp.tiles ((c.args.held + lp.k) * (c.args.settings.depth * 8)))
-          (packs_bytes c.packing_of-p.ensures (tiled (goal.at.loop-k-preserved c).Start) c.take_tile-tile.result 0
-          ∙ ap (packed z.mode z.depth 8 8)
-          (take_all 64 c.take_tile-tile.result (omega (arith, whole (goal.at.loop-k-preserved c).After-take_tile-tile))
-          ∙ taken (goal.at.loop-k-preserved c).After-take_tile-tile))
-          ∙ ap (λ (n : ℕ). sets lp.tiles n due) (add-mul c.args.held lp.k (c.args.settings.depth * 8))),
-    )
-
-pub returns : goal.returns
-returns c = filled-all c.args.more c.loop-k.invariant.1 (omega (arith, c.loop-k.invariant.0, c.loop-k-test.false))
+    let held = c.args.store.now.held in
+    let start = (goal.at.loop-k-preserved c).Start in
+    let here : held + (lp.k - held) ≡ lp.k = omega arith in
+    let next : lp.k - held + 1 ≡ lp.k + 1 - held = omega arith in
+    let due : ℕ → List ℕ = λ k. packed z.mode z.depth 8 8 (tile start k) in
+    let taken : packed z.mode z.depth 8 8 c.take_tile-tile.result ≡ due (lp.k - held) =
+    ap (packed z.mode z.depth 8 8)
+    (c.take_tile-tile.ensures ∙ ap (tile_at z c.args.pixels.now) (c.from.ensures ∙ ap (λ (n : ℕ). get_or c.args.store.now.from n 0) (sym here))) in
+    let put =
+    c.put_tile.ensures
+    ∙ ap (sets lp.tiles (lp.k * (z.depth * 8)))
+    (packs_bytes (packing (goal.at.loop-k-preserved c).After-packing_of-p) (tiled start) c.take_tile-tile.result 0
+    ∙ ap (packed z.mode z.depth 8 8) (take_all 64 c.take_tile-tile.result (omega (arith, whole (goal.at.loop-k-preserved c).After-take_tile-tile)))
+    ∙ taken)
+    ∙ ap (λ (n : ℕ). sets lp.tiles n (due (lp.k - held))) (ap (λ (n : ℕ). n * (z.depth * 8)) (sym here) ∙ add-mul held (lp.k - held) (z.depth * 8)) in
+    subst (λ (n : ℕ). Filled due c.args.tiles.now (held * (z.depth * 8)) n c.put_tile.new.out) next (filled_more (z.depth * 8) (size_is start) lp.invariant put)

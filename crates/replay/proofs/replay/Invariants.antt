@@ -1,9 +1,10 @@
--- There are no more lines, and no more differences, than bytes passed.
-use Rattle.std.proofs.Common.{length, ◌+◌, ◌-◌, ◌≤◌}
+-- There are no more lines than pieces passed, and no more differences than lines.
+use Rattle.std.proofs.Common.{◌+◌, ◌≤◌}
 use Rattle.replay.proofs.replay.Given as goal
 
-abbrev pub invariant-loop-at : goal.invariant-loop-at
-invariant-loop-at l = (l.at ≤ length l.s + 1) × (l.t.lines ≤ l.at) × (l.t.different ≤ l.at)
-
-abbrev pub decreases-loop-at : goal.decreases-loop-at
-decreases-loop-at l = length l.s + 1 - l.at
+abbrev pub invariant-loop-ended : goal.invariant-loop-ended
+invariant-loop-ended l =
+    (goal.iterator-loop-ended).can_next l.ended-iterator
+    × (goal.iterator-loop-ended).is_finite l.ended-iterator
+    × (l.lines + (goal.iterator-loop-ended).remaining l.ended-iterator ≤ (goal.iterator-loop-ended).remaining l.initial.ended-iterator)
+    × (l.different ≤ l.lines)

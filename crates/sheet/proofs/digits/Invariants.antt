@@ -1,12 +1,7 @@
--- The digits before i gave n, and the rest is read after them.
-use Prim.Native.Nat.{◌≤◌, ◌-◌}
-use mathlib.Core.Path.{◌≡◌}
-use lib.ListN.{length, drop}
+-- The digits before b gave n, and the rest is read after them.
+use Rattle.std.proofs.Common.{◌≡◌, drop}
 use Rattle.sheet.specs.Numbers.{digits_from}
 use Rattle.sheet.proofs.digits.Given as goal
 
-abbrev pub invariant-loop-i : goal.invariant-loop-i
-invariant-loop-i l = (l.i ≤ length l.s) × (l.n ≤ 4294967295) × (digits_from l.s 0 ≡ digits_from (drop l.i l.s) l.n)
-
-abbrev pub decreases-loop-i : goal.decreases-loop-i
-decreases-loop-i l = length l.s - l.i
+abbrev pub invariant-loop-b : goal.invariant-loop-b
+invariant-loop-b l = digits_from l.s 0 ≡ digits_from (drop l.b-index l.s) l.n

@@ -3,4 +3,4 @@ use Rattle.words.proofs.Bytes.{read_off}
 use Rattle.mode.proofs.Mode.entry_size.Goals as goal
 
 pub returns : goal.returns
-returns c = read_off 4 c.wide.ensures.0 c.row-r.ensures
+returns c = read_off 4 c.from.ensures c.row-r.ensures.row

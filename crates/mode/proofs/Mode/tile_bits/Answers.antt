@@ -4,4 +4,4 @@ use Rattle.mode.proofs.Tables.{bits-off}
 use Rattle.mode.proofs.Mode.tile_bits.Goals as goal
 
 pub returns : goal.returns
-returns c = bits-off 0 (omega arith) c.requires c.wide.ensures.0 c.row-r.ensures
+returns c = bits-off 0 (omega arith) c.row-r.ensures.mode c.from.ensures c.row-r.ensures.row

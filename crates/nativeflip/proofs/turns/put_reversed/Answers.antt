@@ -3,7 +3,6 @@ use mathlib.Core.Bool.{true}
 use Prim.Native.Nat.{ℕ, ◌<◌}
 use native.Mathlib.Omega.{arith}
 use lib.ListN.{length, get_or}
-use borrow.Author.Rules.{rules}
 use Rattle.words.proofs.Filling.{filled_none}
 use Rattle.tile.specs.Layout.{element}
 use Rattle.tile.proofs.Filling.{tile-stored}
@@ -12,7 +11,7 @@ use Rattle.nativeflip.proofs.Words.{bits-word, word_next}
 use Rattle.nativeflip.proofs.turns.put_reversed.Goals as goal
 
 pub loop-b-init : goal.loop-b-init
-loop-b-init c = (search rules, filled_none _ _ _)
+loop-b-init c = filled_none _ _ _
 
 pub overflow_mul-b : goal.overflow_mul-b
 overflow_mul-b c = omega (arith, c.requires.1.whole, c.requires.1.has.few)
@@ -21,10 +20,7 @@ pub turned_word-requires : goal.turned_word-requires
 turned_word-requires c = (c.requires.1.has, omega (arith, c.requires.1.whole))
 
 pub put_bytes-requires : goal.put_bytes-requires
-put_bytes-requires c = omega (arith, c.requires.1.whole, c.requires.1.space, c.loop-b.invariant.1.long)
-
-pub overflow_add-b : goal.overflow_add-b
-overflow_add-b c = omega (arith, c.requires.1.whole, c.requires.1.has.few)
+put_bytes-requires c = omega (arith, c.requires.1.whole, c.requires.1.space, c.loop-b.invariant.long)
 
 pub loop-b-preserved : goal.loop-b-preserved
 loop-b-preserved c =
@@ -33,9 +29,9 @@ loop-b-preserved c =
     let f = element (planes_turned a.row true a.down (length a.bytes.now)) a.bytes.now in
     let small : (i : ℕ) → get_or a.bytes.now i 0 < 256 = λ i. (c.type_inv.bytes i).fits in
     let is = bits-word a.row c.loop-b.b a.bytes.now small a.down c.turned_word.result r.result c.turned_word.ensures r.ensures in
-    (omega arith, word_next f r.result c.loop-b.invariant.1 c.put_bytes.ensures is)
+    word_next f r.result c.loop-b.invariant c.put_bytes.ensures is
 
 pub returns : goal.returns
 returns c =
     let a = c.args in
-    tile-stored (planes_turned a.row true a.down (length a.bytes.now)) a.bytes.now a.n c.loop-b.invariant.1 (omega arith) (sym c.requires.1.whole)
+    tile-stored (planes_turned a.row true a.down (length a.bytes.now)) a.bytes.now a.n c.loop-b.invariant (omega arith) (sym c.requires.1.whole)

@@ -1,6 +1,5 @@
 -- Each turn stores a word of the turned tile.
 use mathlib.Core.Bool.{false}
-use Prim.Native.Nat.{◌-◌, ◌≤◌}
 use lib.ListN.{length}
 use Rattle.words.proofs.Filling.{Filled}
 use Rattle.tile.specs.Layout.{element}
@@ -9,7 +8,4 @@ use Rattle.nativeflip.specs.Inner.{planes_turned}
 use Rattle.nativeflip.proofs.turns.put_rows.Given as goal
 
 abbrev pub invariant-loop-b : goal.invariant-loop-b
-invariant-loop-b l = (l.b ≤ l.n) × Filled (run (element (planes_turned l.row false l.down (length l.bytes)) l.bytes)) l.initial.out 0 l.b l.out
-
-abbrev pub decreases-loop-b : goal.decreases-loop-b
-decreases-loop-b l = l.n - l.b
+invariant-loop-b l = Filled (run (element (planes_turned l.row false l.down (length l.bytes)) l.bytes)) l.initial.out 0 l.b l.out

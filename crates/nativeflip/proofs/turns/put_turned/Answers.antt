@@ -1,7 +1,6 @@
 use mathlib.Core.Path.{sym}
 use native.Mathlib.Omega.{arith}
 use lib.ListN.{length}
-use borrow.Author.Rules.{rules}
 use Rattle.words.proofs.Filling.{filled_none}
 use Rattle.tile.specs.Layout.{element}
 use Rattle.tile.proofs.Filling.{tile-stored}
@@ -10,7 +9,7 @@ use Rattle.nativeflip.proofs.Words.{word_next}
 use Rattle.nativeflip.proofs.turns.put_turned.Goals as goal
 
 pub loop-b-init : goal.loop-b-init
-loop-b-init c = (search rules, filled_none _ _ _)
+loop-b-init c = filled_none _ _ _
 
 pub overflow_mul-b : goal.overflow_mul-b
 overflow_mul-b c = omega (arith, c.requires.whole, c.requires.has.few)
@@ -19,19 +18,16 @@ pub turned_word-requires : goal.turned_word-requires
 turned_word-requires c = (c.requires.has, omega (arith, c.requires.whole))
 
 pub put_bytes-requires : goal.put_bytes-requires
-put_bytes-requires c = omega (arith, c.requires.whole, c.requires.space, c.loop-b.invariant.1.long)
-
-pub overflow_add-b : goal.overflow_add-b
-overflow_add-b c = omega (arith, c.requires.whole, c.requires.has.few)
+put_bytes-requires c = omega (arith, c.requires.whole, c.requires.space, c.loop-b.invariant.long)
 
 pub loop-b-preserved : goal.loop-b-preserved
 loop-b-preserved c =
     let l = c.loop-b in
     let a = c.args in
     let f = element (pixels_turned a.row a.f.h a.f.v (length a.bytes.now)) a.bytes.now in
-    (omega arith, word_next f c.turned_word.result l.invariant.1 c.put_bytes.ensures c.turned_word.ensures)
+    word_next f c.turned_word.result l.invariant c.put_bytes.ensures c.turned_word.ensures
 
 pub returns : goal.returns
 returns c =
     let a = c.args in
-    tile-stored (pixels_turned a.row a.f.h a.f.v (length a.bytes.now)) a.bytes.now a.n c.loop-b.invariant.1 (omega arith) (sym c.requires.whole)
+    tile-stored (pixels_turned a.row a.f.h a.f.v (length a.bytes.now)) a.bytes.now a.n c.loop-b.invariant (omega arith) (sym c.requires.whole)

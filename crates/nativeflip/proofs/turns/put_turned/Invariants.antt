@@ -1,5 +1,4 @@
 -- Each turn stores a word of the flipped tile.
-use Prim.Native.Nat.{◌-◌, ◌≤◌}
 use lib.ListN.{length}
 use Rattle.words.proofs.Filling.{Filled}
 use Rattle.tile.specs.Layout.{element}
@@ -8,7 +7,4 @@ use Rattle.nativeflip.specs.Inner.{pixels_turned}
 use Rattle.nativeflip.proofs.turns.put_turned.Given as goal
 
 abbrev pub invariant-loop-b : goal.invariant-loop-b
-invariant-loop-b l = (l.b ≤ l.n) × Filled (run (element (pixels_turned l.row l.f.h l.f.v (length l.bytes)) l.bytes)) l.initial.out 0 l.b l.out
-
-abbrev pub decreases-loop-b : goal.decreases-loop-b
-decreases-loop-b l = l.n - l.b
+invariant-loop-b l = Filled (run (element (pixels_turned l.row l.f.h l.f.v (length l.bytes)) l.bytes)) l.initial.out 0 l.b l.out

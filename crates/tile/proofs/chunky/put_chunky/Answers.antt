@@ -1,7 +1,5 @@
 use Prim.Native.Nat.{◌/◌}
 use native.Mathlib.Omega.{arith}
-use borrow.Author.Rules.{rules}
-use Rattle.words.proofs.Filling.{filled_none}
 use Rattle.tile.specs.Layout.{element}
 use Rattle.tile.specs.Packings.{layout_in}
 use Rattle.tile.proofs.Filling.{word_next, tile-stored}
@@ -13,12 +11,6 @@ use Rattle.tile.proofs.chunky.put_chunky.Goals.{Start}
 size : (s : Start) → Chunky s.args.p
 size s = chunky-of s.args.p s.requires.0
 
-pub words_of-ws-requires : goal.words_of-ws-requires
-words_of-ws-requires c = (omega arith, omega (arith, c.requires.1.whole, (size (goal.at.words_of-ws-requires c).Start).pixels))
-
-pub loop-b-init : goal.loop-b-init
-loop-b-init c = (search rules, filled_none _ _ _)
-
 pub loop-b-preserved : goal.loop-b-preserved
 loop-b-preserved c =
     let l = c.loop-b in
@@ -27,10 +19,10 @@ loop-b-preserved c =
     let a = c.args in
     let w = c.chunky_word in
     let is = word-law (size (goal.at.loop-b-preserved c).Start).fits a.tile.now ws.result l.b w.result ws.ensures (omega (arith, n.ensures)) w.ensures in
-    (omega arith, word_next (element (layout_in a.p).bytes a.tile.now) w.result l.invariant.1 c.put_bytes.ensures is)
+    word_next (element (layout_in a.p).bytes a.tile.now) w.result l.invariant c.put_bytes.ensures is
 
 pub returns : goal.returns
 returns c =
     let n = c.byte_count-n in
     let a = c.args in
-    tile-stored (layout_in a.p).bytes a.tile.now (n.result / 8) c.loop-b.invariant.1 (omega arith) (omega (arith, n.ensures, (size (goal.at.returns c).Start).bytes))
+    tile-stored (layout_in a.p).bytes a.tile.now (n.result / 8) c.loop-b.invariant (omega arith) (omega (arith, n.ensures, (size (goal.at.returns c).Start).bytes))

@@ -1,5 +1,5 @@
 -- Each turn stores a word of the bytes.
-use Prim.Native.Nat.{◌-◌, ◌≤◌}
+use Prim.Native.Nat.{}
 use Rattle.words.proofs.Filling.{Filled}
 use Rattle.tile.specs.Layout.{element}
 use Rattle.tile.specs.Packings.{layout_in}
@@ -7,7 +7,4 @@ use Rattle.tile.proofs.Filling.{run}
 use Rattle.tile.proofs.chunky.put_chunky.Given as goal
 
 abbrev pub invariant-loop-b : goal.invariant-loop-b
-invariant-loop-b l = (l.b ≤ l.n) × Filled (run (element (layout_in l.p).bytes l.tile)) l.initial.out l.at l.b l.out
-
-abbrev pub decreases-loop-b : goal.decreases-loop-b
-decreases-loop-b l = l.n - l.b
+invariant-loop-b l = Filled (run (element (layout_in l.p).bytes l.tile)) l.initial.out l.at l.b l.out

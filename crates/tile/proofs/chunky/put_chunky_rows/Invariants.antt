@@ -1,5 +1,5 @@
 -- Each turn stores a row of the pixels.
-use Prim.Native.Nat.{◌-◌, ◌≤◌}
+use Prim.Native.Nat.{}
 use Rattle.words.proofs.Filling.{Filled}
 use Rattle.tile.specs.Layout.{element}
 use Rattle.tile.specs.Packings.{layout_in}
@@ -7,7 +7,4 @@ use Rattle.tile.proofs.Filling.{run}
 use Rattle.tile.proofs.chunky.put_chunky_rows.Given as goal
 
 abbrev pub invariant-loop-r : goal.invariant-loop-r
-invariant-loop-r l = (l.r ≤ 8) × Filled (run (element (layout_in l.p).pixels l.bytes)) l.initial.out l.at l.r l.out
-
-abbrev pub decreases-loop-r : goal.decreases-loop-r
-decreases-loop-r l = 8 - l.r
+invariant-loop-r l = Filled (run (element (layout_in l.p).pixels l.bytes)) l.initial.out l.at l.r l.out

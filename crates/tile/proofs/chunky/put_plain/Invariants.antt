@@ -1,12 +1,9 @@
 -- Each turn moves eight.
-use Prim.Native.Nat.{◌-◌, ◌≤◌}
+use Prim.Native.Nat.{}
 use lib.ListN.{get_or}
 use Rattle.words.proofs.Filling.{Filled}
 use Rattle.tile.proofs.Filling.{run}
 use Rattle.tile.proofs.chunky.put_plain.Given as goal
 
 abbrev pub invariant-loop-r : goal.invariant-loop-r
-invariant-loop-r l = (l.r ≤ 8) × Filled (run (λ k. get_or l.tile k 0)) l.initial.out l.at l.r l.out
-
-abbrev pub decreases-loop-r : goal.decreases-loop-r
-decreases-loop-r l = 8 - l.r
+invariant-loop-r l = Filled (run (λ k. get_or l.tile k 0)) l.initial.out l.at l.r l.out

@@ -1,11 +1,8 @@
 -- Each turn reads a word and turns it.
-use Prim.Native.Nat.{◌-◌, ◌≤◌}
+use Prim.Native.Nat.{}
 use Rattle.tile.proofs.Filling.{Starts}
 use Rattle.tile.proofs.Columns.{turned}
 use Rattle.tile.proofs.planes.column_words.Given as goal
 
 abbrev pub invariant-loop-i : goal.invariant-loop-i
-invariant-loop-i l = (l.i ≤ l.n) × Starts 8 (turned l.bytes) l.i l.ws
-
-abbrev pub decreases-loop-i : goal.decreases-loop-i
-decreases-loop-i l = l.n - l.i
+invariant-loop-i l = Starts 8 (turned l.bytes) l.i l.ws

@@ -9,4 +9,4 @@ unfolding one_row
 returns c =
     let a = c.args in
     c.gather.ensures ∙ eight-value a.ws.now 0 a.r
-    ∙ word-is (strands 1) 8 one_row one-row-is a.ws.now c.requires.0 a.r c.requires.1
+    ∙ word-is (strands 1) 8 one_row one-row-is a.ws.now c.fits-ws a.r c.requires

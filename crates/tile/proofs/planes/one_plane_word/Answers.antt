@@ -9,6 +9,6 @@ pub returns : goal.returns
 unfolding ones
 returns c =
     let a = c.args in
-    turned-is (planar 1 8 8 8).bytes 8 ones ones-are a.ws.now c.requires.0 a.b _ _ c.requires.1
+    turned-is (planar 1 8 8 8).bytes 8 ones ones-are a.ws.now c.fits-ws a.b _ _ c.requires
     (c.reverse_bytes.ensures ∙ ap reversed_bytes (c.gather.ensures ∙ eight-value a.ws.now 0 a.b))
     c.cross.ensures

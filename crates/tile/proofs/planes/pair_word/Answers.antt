@@ -7,5 +7,5 @@ use Rattle.tile.proofs.planes.pair_word.Goals as goal
 pub returns : goal.returns
 unfolding value pairs four one part
 returns c =
-    turned-is (planar 2 8 8 8).bytes 8 pairs pairs-are c.args.ws.now c.requires.0 c.args.b _ _ c.requires.1
+    turned-is (planar 2 8 8 8).bytes 8 pairs pairs-are c.args.ws.now c.fits-ws c.args.b _ _ c.requires
     c.reverse_bytes.ensures c.cross.ensures

@@ -1,5 +1,5 @@
 -- Each turn stores a row of the pixels.
-use Prim.Native.Nat.{◌-◌, ◌≤◌}
+use Prim.Native.Nat.{}
 use Rattle.words.proofs.Filling.{Filled}
 use Rattle.tile.specs.Layout.{element}
 use Rattle.tile.specs.Packings.{planar}
@@ -7,7 +7,4 @@ use Rattle.tile.proofs.Filling.{run}
 use Rattle.tile.proofs.planes.put_plane_rows.Given as goal
 
 abbrev pub invariant-loop-r : goal.invariant-loop-r
-invariant-loop-r l = (l.r ≤ 8) × Filled (run (element (planar l.group l.depth 8 8).pixels l.bytes)) l.initial.out l.at l.r l.out
-
-abbrev pub decreases-loop-r : goal.decreases-loop-r
-decreases-loop-r l = 8 - l.r
+invariant-loop-r l = Filled (run (element (planar l.group l.depth 8 8).pixels l.bytes)) l.initial.out l.at l.r l.out

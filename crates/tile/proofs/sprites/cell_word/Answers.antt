@@ -13,4 +13,4 @@ returns c =
     let e : ℕ → ℕ = λ i. get_or a.ws.now i 0 in
     c.cross.ensures ∙ ap crossed (c.gather.ensures ∙ eight-value a.ws.now (a.b % 4 * 8) (a.b / 4))
     ∙ cross-value e (eight (a.b % 4 * 8) (a.b / 4))
-    ∙ word-is cell 16 cell_plane cell-plane-is a.ws.now c.requires.0 a.b c.requires.1
+    ∙ word-is cell 16 cell_plane cell-plane-is a.ws.now c.fits-ws a.b c.requires

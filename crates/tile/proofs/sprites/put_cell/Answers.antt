@@ -1,13 +1,8 @@
 use native.Mathlib.Omega.{arith}
-use borrow.Author.Rules.{rules}
-use Rattle.words.proofs.Filling.{filled_none}
 use Rattle.tile.specs.Inner.{cell_byte}
 use Rattle.tile.proofs.Filling.{word_next, words-stored}
 use Rattle.tile.proofs.Packed.{cell-word-is}
 use Rattle.tile.proofs.sprites.put_cell.Goals as goal
-
-pub loop-b-init : goal.loop-b-init
-loop-b-init c = (search rules, filled_none _ _ _)
 
 pub loop-b-preserved : goal.loop-b-preserved
 loop-b-preserved c =
@@ -16,9 +11,9 @@ loop-b-preserved c =
     let ws = c.cell_words-ws in
     let w = c.cell_word in
     let is = cell-word-is a.tile.now ws.result a.from a.width l.b w.result ws.ensures (omega arith) w.ensures in
-    (omega arith, word_next (cell_byte a.tile.now a.from a.width) w.result l.invariant.1 c.put_bytes.ensures is)
+    word_next (cell_byte a.tile.now a.from a.width) w.result l.invariant c.put_bytes.ensures is
 
 pub returns : goal.returns
 returns c =
     let a = c.args in
-    words-stored (cell_byte a.tile.now a.from a.width) 16 c.loop-b.invariant.1 (omega arith)
+    words-stored (cell_byte a.tile.now a.from a.width) 16 c.loop-b.invariant (omega arith)

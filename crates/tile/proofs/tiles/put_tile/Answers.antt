@@ -1,15 +1,15 @@
 -- Each arm stores what its packing says.
-use mathlib.Core.Path.{◌≡◌, refl, ap, ◌∙◌}
+use mathlib.Core.Path.{◌≡◌, ap, ◌∙◌}
 use Prim.Native.Nat.{ℕ, ◌+◌, ◌-◌, ◌<◌}
 use native.Mathlib.Omega.{arith}
 use lib.ListN.{get_or, take, drop}
 use lib.Seq.{sets}
 use Rattle.tile.specs.Inner.{pixel_count, packed_in, PacksWhole}
 use Rattle.tile.specs.declared.Packing.{Packing}
-use Rattle.tile.specs.declared.Packing.TheVariants.{Planar, Plain, Sprite}
+use Rattle.tile.specs.declared.Packing.TheVariants.{Plain}
 use Rattle.tile.proofs.Filling.{part_small}
 use Rattle.tile.proofs.Packings.{packs-in, same_bytes, packs-whole}
-use Rattle.tile.proofs.Packed.{is-chunky, plain-bytes}
+use Rattle.tile.proofs.Packed.{plain-bytes}
 use Rattle.tile.proofs.tiles.put_tile.Goals as goal
 use Rattle.tile.proofs.tiles.put_tile.Goals.{After-tile-1}
 
@@ -29,28 +29,7 @@ plain c e =
     small : (i : ℕ) → get_or c.args.pixels.now i 0 < 256
     small i = (c.type_inv.pixels i).fits
 
-pub put_planes-requires : goal.put_planes-requires
-put_planes-requires c = packs-in (Planar c.in-Planar.group c.in-Planar.depth) c.in-Planar.is (part (goal.at.put_planes-requires c).After-tile-1)
-
-pub put_plain-requires : goal.put_plain-requires
-put_plain-requires c = let h = packs-in Plain c.in-Plain.is (part (goal.at.put_plain-requires c).After-tile-1) in (h.whole, h.space)
-
-pub put_sprite-requires : goal.put_sprite-requires
-put_sprite-requires c = packs-in (Sprite c.in-Sprite.width c.in-Sprite.height) c.in-Sprite.is (part (goal.at.put_sprite-requires c).After-tile-1)
-
-pub put_chunky-requires : goal.put_chunky-requires
-put_chunky-requires c = (is-chunky (c.args.p) c.in_default.in_default-own.keys4, part (goal.at.put_chunky-requires c).After-tile-1)
-
-pub returns-in-Planar : goal.returns-in-Planar
-returns-in-Planar c = c.put_planes.ensures ∙ same (goal.at.returns-in-Planar c).After-tile-1 (Planar c.in-Planar.group c.in-Planar.depth) c.in-Planar.is
-
 pub returns-in-Plain : goal.returns-in-Plain
 returns-in-Plain c =
     let e = c.in-Plain.is in
     c.put_plain.ensures ∙ ap (λ l. sets c.args.out.now c.args.at l) (plain (goal.at.returns-in-Plain c).After-tile-1 e) ∙ same (goal.at.returns-in-Plain c).After-tile-1 Plain e
-
-pub returns-in-Sprite : goal.returns-in-Sprite
-returns-in-Sprite c = c.put_sprite.ensures ∙ same (goal.at.returns-in-Sprite c).After-tile-1 (Sprite c.in-Sprite.width c.in-Sprite.height) c.in-Sprite.is
-
-pub returns-in_default : goal.returns-in_default
-returns-in_default c = c.put_chunky.ensures ∙ same (goal.at.returns-in_default c).After-tile-1 (c.args.p) refl

@@ -3,10 +3,10 @@ use mathlib.Core.Path.{◌≡◌, ap, ◌∙◌}
 use mathlib.Core.List.{List}
 use Prim.Native.Nat.{ℕ, ◌≤◌}
 use native.Mathlib.Omega.{arith}
-use lib.ListN.{length, take, length-take}
+use lib.ListN.{length, take}
 use Rattle.tileset.specs.Sets.{area}
 use Rattle.tileset.specs.Finding.{cut_to, tiles_in, look_up, found_in}
-use Rattle.tileset.proofs.Stores.{length_cut, cut-front}
+use Rattle.tileset.proofs.Stores.{cut-front}
 use Rattle.tileset.proofs.finding.found_in.Goals as goal
 use Rattle.tileset.proofs.finding.found_in.Goals.{After-put_cut}
 
@@ -15,19 +15,6 @@ short c = omega (arith, c.requires.whole, c.requires.small)
 
 tile-is : (c : After-put_cut) → take (length c.args.pixels.now) c.put_cut.new.out ≡ cut_to c.args.set.depth c.args.pixels.now
 tile-is c = ap (take (length c.args.pixels.now)) c.put_cut.ensures ∙ cut-front c.args.set.depth c.args.pixels.now _ (omega (arith, short c))
-
-pub slice_bounds-find-end : goal.slice_bounds-find-end
-slice_bounds-find-end c = simp length-take (omega (arith, short (goal.at.slice_bounds-find-end c).After-put_cut))
-
-pub find-requires : goal.find-requires
-find-requires c =
-    record {
-      some = c.requires.some;
-      eights = c.requires.eights;
-      small = c.requires.small;
-      inside = c.requires.inside;
-      whole = ap length (tile-is (goal.at.find-requires c).After-put_cut) ∙ length_cut c.args.set.depth _ ∙ c.requires.whole;
-    }
 
 pub returns : goal.returns
 unfolding found_in

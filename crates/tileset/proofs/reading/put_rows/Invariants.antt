@@ -1,11 +1,7 @@
 -- The rows before y are put.
-use Prim.Native.Nat.{◌-◌, ◌≤◌}
 use Rattle.words.proofs.Filling.{Filled}
 use Rattle.tileset.specs.Inner.{row_of}
 use Rattle.tileset.proofs.reading.put_rows.Given as goal
 
 abbrev pub invariant-loop-y : goal.invariant-loop-y
-invariant-loop-y l = (l.y ≤ l.height) × Filled (row_of l.width l.cells) l.initial.out l.at l.y l.out
-
-abbrev pub decreases-loop-y : goal.decreases-loop-y
-decreases-loop-y l = l.height - l.y
+invariant-loop-y l = Filled (row_of l.width l.cells) l.initial.out l.at l.y l.out

@@ -1,49 +1,35 @@
 -- Refused, or the tiles at the front of the store.
-use mathlib.Core.Path.{◌≡◌, refl, sym, ap, ◌∙◌}
-use Prim.Native.Nat.{ℕ, ◌≤◌}
-use native.Mathlib.Omega.{arith}
+use mathlib.Core.Path.{sym, ◌∙◌, subst}
+use lib.Dec.{T}
 use lib.ListN.{length}
-use Rattle.tileset.specs.Sets.{set_says}
-use Rattle.tileset.specs.Reading.{read_count, read_says, read_set}
-use Rattle.tileset.proofs.Says.{set_answer}
-use Rattle.tileset.proofs.ReadingLaws.{read-says-set, read-space, read-few, refuse-read, done-read}
+use Rattle.tileset.specs.Inner.{ReadsAll}
+use Rattle.tileset.proofs.Sizes.{set-of}
+use Rattle.tileset.proofs.WritingLaws.{in_cells}
+use Rattle.tileset.proofs.ReadingLaws.{read_refused, read-space, read-few, refuse-read, native-as}
 use Rattle.tileset.proofs.reading.read.Goals as goal
-use Rattle.tileset.proofs.reading.read.Goals.{Else-refusal-ne0}
+use Rattle.tileset.proofs.reading.read.Goals.{In_ok-count}
 
-accepted : (c : Else-refusal-ne0) → let a = c.args in read_says a.mode a.depth a.width a.height (length a.bytes.now) (length a.store.now) ≡ 0
-accepted c = sym c.read_says-refusal.ensures ∙ c.if-refusal-ne0.false
-
-allowed : (c : Else-refusal-ne0) → let a = c.args in set_says a.mode a.depth a.width a.height ≡ 0
-allowed c = let a = c.args in read-says-set a.mode a.depth a.width a.height (length a.bytes.now) (length a.store.now) (accepted c)
-
-few : (c : Else-refusal-ne0) → let a = c.args in read_count a.mode a.depth a.width a.height (length a.bytes.now) ≤ 65535
-few c = let a = c.args in read-few a.mode a.depth a.width a.height (length a.bytes.now) (length a.store.now) (accepted c)
-
-pub returns-then-refusal-ne0 : goal.returns-then-refusal-ne0
-returns-then-refusal-ne0 c =
-    let a = c.args in
-    let n = c.read_says-refusal in
-    refuse-read a.mode a.depth a.width a.height a.flips a.bytes.now a.store.now n.result n.ensures c.if-refusal-ne0.true refl refl
-
-pub read_count-count-requires : goal.read_count-count-requires
-read_count-count-requires c = allowed c
-
-pub overflow_cast-count : goal.overflow_cast-count
-overflow_cast-count c = omega (arith, few (goal.at.overflow_cast-count c).Else-refusal-ne0, c.read_count-count.ensures)
-
-pub put_read-requires : goal.put_read-requires
-put_read-requires c =
-    let a = c.args in
-    let n = c.read_count-count in
+reads : (c : In_ok-count) → ReadsAll c.in_ok-shape.shape c.in_ok-count.count c.args.bytes.now c.args.store.now
+reads c =
+    let s = c.in_ok-shape.shape in
+    let found = c.in_ok-count.ensures in
+    let len = length c.args.bytes.now in
+    let space = length c.args.store.now in
     record {
-      sound = allowed (goal.at.put_read-requires c).Else-refusal-ne0;
-      few = omega (arith, few (goal.at.put_read-requires c).Else-refusal-ne0, n.ensures);
-      is = n.ensures;
-      space = rw n.ensures (read-space a.mode a.depth a.width a.height (length a.bytes.now) (length a.store.now) (accepted (goal.at.put_read-requires c).Else-refusal-ne0));
+      few = rw found.count (read-few s.mode s.depth s.width s.height len space (sym found.says));
+      is = found.count;
+      space = rw found.count (read-space s.mode s.depth s.width s.height len space (sym found.says));
     }
 
-pub returns : goal.returns
-returns c =
+pub returns-in_err-shape : goal.returns-in_err-shape
+returns-in_err-shape c =
     let a = c.args in
-    let counted = ap (λ (k : ℕ). set_answer 0 (read_set a.mode a.depth a.width a.height a.flips k)) c.read_count-count.ensures in
-    done-read a.mode a.depth a.width a.height a.flips a.bytes.now a.store.now (accepted (goal.at.returns c).Else-refusal-ne0) counted c.put_read.ensures
+    let e = c.in_err-shape.field-0.0 in
+    refuse-read a.mode a.depth a.width a.height a.flips a.bytes.now a.store.now _ e (read_refused _ _ _ _ _ _ e c.in_err-shape.ensures.says) c.from_residual.ensures.1
+
+pub put_tiles-requires : goal.put_tiles-requires
+put_tiles-requires c = (reads (goal.at.put_tiles-requires c).In_ok-count, subst T (c.if-is_native.ensures ∙ sym (native-as c.in_ok-shape.ensures.shape)) tt)
+
+pub put_cells-requires : goal.put_cells-requires
+put_cells-requires c =
+    (reads (goal.at.put_cells-requires c).In_ok-count, in_cells (set-of _ _ _ _ c.in_ok-shape.shape.allowed) (native-as c.in_ok-shape.ensures.shape ∙ sym c.if-is_native.ensures))

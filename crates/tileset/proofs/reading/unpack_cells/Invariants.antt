@@ -1,6 +1,6 @@
 -- The cells before i are unpacked.
 use mathlib.Core.List.{List}
-use Prim.Native.Nat.{ℕ, ◌+◌, ◌-◌, ◌*◌, ◌/◌, ◌%◌, ◌≤◌}
+use Prim.Native.Nat.{ℕ, ◌+◌, ◌*◌, ◌/◌, ◌%◌}
 use Rattle.words.proofs.Filling.{Filled}
 use Rattle.tileset.specs.Reading.{cell_in}
 use Rattle.tileset.proofs.reading.unpack_cells.Given as goal
@@ -11,7 +11,4 @@ pixels m d bytes h r first k = cell_in m d bytes (first + k / h * r + k % h)
 
 abbrev pub invariant-loop-i : goal.invariant-loop-i
 invariant-loop-i l =
-    (l.i ≤ l.width / 8 * (l.height / 8)) × Filled (pixels l.mode l.depth l.bytes (l.width / 8) l.row l.first.0) l.initial.out 0 l.i l.out
-
-abbrev pub decreases-loop-i : goal.decreases-loop-i
-decreases-loop-i l = l.width / 8 * (l.height / 8) - l.i
+    Filled (pixels l.fn.shape.mode l.fn.shape.depth l.bytes l.cells.across l.cells.row l.first.0) l.initial.out 0 l.i l.out
