@@ -1,4 +1,5 @@
 pub mod Places
+pub mod Together
 pub mod Packing
 pub mod Unpacking
 pub mod Channels

@@ -5,7 +5,7 @@ ghost use Rattle.mode.specs.Table.{row};
 ghost use Rattle.color.specs.Color.{coloring};
 ghost use Rattle.color.specs.Channel.{bits_up_to};
 
-use crate::{Rounding, can_pack, put_color, some_above, value_at};
+use crate::{can_pack, put_color, some_above, value_at};
 use words::refusal::Refusal;
 
 // Whether a word of the mode has grays, and four of them; its bytes, and whether the most stands first; the top and the bits of a component, as many
@@ -46,10 +46,9 @@ impl ColorPlaces {
     ghost use Rattle.std.proofs.lemmas.List.Edits.{sets};
     ghost use Rattle.words.specs.Answers.{overwrite};
     ghost use Rattle.words.specs.Loops.{each};
-    ghost use Rattle.words.specs.Refusals.{answered};
+    ghost use Rattle.words.specs.InnerResults.{answered};
     ghost use Rattle.color.specs.Color.{pack_says, unpack_says, unpackable, packed_size, color_count};
     ghost use Rattle.color.specs.Inner.{Within, AllWithin, gray_in, word_with, color_word, four_word, color_bytes, gray_at, color_from, four_from, word_from};
-    ghost use Rattle.color.specs.Channel.{reduced};
 
     // The word that holds up to four values: r, g and b, or grays.
     pub fn word_with(self, a: u32, b: u32, c: u32, d: u32) -> u32
@@ -219,16 +218,5 @@ impl ColorPlaces {
             return Err(Refusal::Output);
         }
         Ok(n)
-    }
-
-    // One channel, as a component.
-    pub fn reduced_to(self, value: u32, how: Rounding) -> u32
-        requires { value < 256 }
-        ensures { result ≡ reduced how self.top value }
-    {
-        match how {
-            Rounding::Truncate => words::down(value, 8 - self.bits),
-            Rounding::Nearest => (value * self.top + 127) / 255,
-        }
     }
 }

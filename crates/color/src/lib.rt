@@ -7,18 +7,18 @@ ghost use Rattle.std.specs.Prelude.{◌≡◌, ◌+◌, ◌*◌, ◌-◌, ◌/�
 ghost use Rattle.std.proofs.lemmas.List.Edits.{sets};
 ghost use Rattle.words.specs.Answers.{numbered, Wrote};
 ghost use Rattle.words.specs.Loops.{some};
-ghost use Rattle.words.specs.Refusals.{written_by, numbered_by};
+ghost use Rattle.words.specs.InnerResults.{written_by, numbered_by};
 ghost use Rattle.mode.specs.Table.{row};
 ghost use Rattle.color.specs.Color.{above, pack_says, packed, unpack_says, unpacked, packable, opaque};
 ghost use Rattle.color.specs.Inner.{value_at, copies};
-ghost use Rattle.color.specs.Channel.{mode_says, reduced, scale_says, scaled_up};
+ghost use Rattle.color.specs.Channel.{bits_up_to, mode_says, reduced, scale_says, scaled_up};
 
 use crate::color_places::ColorPlaces;
 use mode::Mode;
 use words::refusal::Refusal;
 
-// Read once a call. A match, for a const table would be copied to the stack at each use: more than four grays cost. What a word has no field for
-// stands at 16, above every word.
+// Read once a call. A match, for a const table would be copied to the stack at each use: more than four grays cost. It names each mode, so that the
+// compiler needs no test for others. What a word has no field for stands at 16, above every word.
 fn color_places_of(m: Mode) -> ColorPlaces
     ensures { result.mode ≡ m }
 {
@@ -38,7 +38,8 @@ fn color_places_of(m: Mode) -> ColorPlaces
         Mode::NGPC => (false, false, 2, false, 4, 0, 4, 8, 16),
         Mode::WS => (true, true, 2, false, 3, 0, 4, 8, 12),
         Mode::WSC => (false, false, 2, false, 4, 8, 4, 0, 16),
-        _ => (false, false, 2, false, 4, 8, 4, 0, 16),
+        Mode::WSC_PACKED => (false, false, 2, false, 4, 8, 4, 0, 16),
+        _ => unreachable!(),
     };
     ColorPlaces {
         mode: m.number(),
@@ -55,17 +56,18 @@ fn color_places_of(m: Mode) -> ColorPlaces
     }
 }
 
-// Whether colour i has a component above the top.
+// Whether colour i has a component above the top, whose bits are all ones: then one of the three has a bit above them. One branch a colour: with one
+// for each component, packing took up to a third longer, as its machine code happened to lie.
 fn is_above(top: u32, colors: &[u8], i: usize) -> bool
-    requires { 4 * i + 3 < length colors.now }
+    requires there { 4 * i + 3 < length colors.now }
+    requires whole { 2 ^ bits_up_to top ≡ top + 1 }
     ensures { result ≡ above top colors.now i }
 {
-    top < u32::from(colors[4 * i])
-        || top < u32::from(colors[4 * i + 1])
-        || top < u32::from(colors[4 * i + 2])
+    top < u32::from(colors[4 * i] | colors[4 * i + 1] | colors[4 * i + 2])
 }
 
 fn some_above(top: u32, colors: &[u8]) -> bool
+    requires { 2 ^ bits_up_to top ≡ top + 1 }
     ensures { result ≡ some (length colors.now / 4) (above top colors.now) }
 {
     for i in 0..colors.len() / 4 {
@@ -138,12 +140,51 @@ pub enum Rounding {
     Nearest,
 }
 
+// The top of a mode's components and how many bits they have, for a call that needs no more. Each becomes one look into a table; of all the places
+// the compiler makes jumps and tests, and such a call took up to twice as long.
+#[tactic(auto, unfolding(mode::specs::Table::row))]
+fn component_of(m: Mode) -> (u32, u32)
+    ensures top { (result.0 ≡ (row m).top) × (result.0 ≤ 31) }
+    ensures bits { (result.1 ≡ bits_up_to (row m).top) × (result.1 ≤ 5) }
+{
+    match m {
+        Mode::SNES => (31, 5),
+        Mode::SNES_MODE7 => (31, 5),
+        Mode::GB => (3, 2),
+        Mode::GBC => (31, 5),
+        Mode::GBA => (31, 5),
+        Mode::GBA_AFFINE => (31, 5),
+        Mode::MD => (7, 3),
+        Mode::SMS => (3, 2),
+        Mode::GG => (15, 4),
+        Mode::PCE => (7, 3),
+        Mode::PCE_SPRITE => (7, 3),
+        Mode::NGP => (7, 3),
+        Mode::NGPC => (15, 4),
+        Mode::WS => (7, 3),
+        Mode::WSC => (15, 4),
+        Mode::WSC_PACKED => (15, 4),
+        _ => unreachable!(),
+    }
+}
+
+// One channel, as a component.
+fn reduced_to(top: u32, bits: u32, value: u32, how: Rounding) -> u32
+    requires { (top ≤ 31) × (bits ≤ 5) × (bits ≡ bits_up_to top) × (value < 256) }
+    ensures { result ≡ reduced how top value }
+{
+    match how {
+        Rounding::Truncate => words::down(value, 8 - bits),
+        Rounding::Nearest => (value * top + 127) / 255,
+    }
+}
+
 // One channel of a colour, as the mode keeps it.
 pub fn reduce_channel(mode: u32, value: u8, how: Rounding) -> Result<u32, Refusal>
     ensures { numbered_by result ≡ numbered (mode_says mode) (reduced how (row mode).top value) }
 {
-    let places = color_places_of(Mode::try_from(mode)?);
-    Ok(places.reduced_to(u32::from(value), how))
+    let (top, bits) = component_of(Mode::try_from(mode)?);
+    Ok(reduced_to(top, bits, u32::from(value), how))
 }
 
 // The bits of a component, repeated to eight.
@@ -159,9 +200,9 @@ fn repeated(bits: u32, component: u32) -> u32
 pub fn scale_up(mode: u32, component: u32) -> Result<u32, Refusal>
     ensures { numbered_by result ≡ numbered (scale_says mode component) (scaled_up (row mode).top component) }
 {
-    let places = color_places_of(Mode::try_from(mode)?);
-    if places.top < component {
+    let (top, bits) = component_of(Mode::try_from(mode)?);
+    if top < component {
         return Err(Refusal::Component);
     }
-    Ok(repeated(places.bits, component))
+    Ok(repeated(bits, component))
 }

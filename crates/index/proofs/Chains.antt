@@ -1,4 +1,5 @@
--- A search of a true index, from the last tile of a bucket to the first, finds what a look-up finds.
+-- A search of a true index, from the last tile of a bucket to the first, finds what a look-up finds: said of any three lists, of any length, and so
+-- of an index's own.
 -- Assumes nothing.
 use mathlib.Core.Path.{◌≡◌, refl, sym, ap, ◌∙◌, subst}
 use mathlib.Core.Bool.{Bool, true, false, cond, ◌||◌}
@@ -20,21 +21,22 @@ use Rattle.tileset.specs.declared.Found.{Found}
 use Rattle.tileset.specs.declared.Found.TheVariants.{At, Nothing}
 use Rattle.tileset.proofs.Matched.{look-some}
 use Rattle.tileset.proofs.Search.{or_else, look-append}
-use Rattle.index.specs.Inner.{key_at, head_at, next_at, bucket_of, Skip, Gap, Indexed, link_of, Searches}
+use Rattle.index.specs.InnerLinks.{link_in}
+use Rattle.index.specs.Inner.{bucket_of, Skip, Gap, IndexedIn, SearchesIn, Searches}
 use Rattle.index.specs.declared.Index.{Index}
 use Rattle.flip.specs.declared.Flip.{Flip}
 use Rattle.index.proofs.Keys.{matches-key}
 
-module _ (on : Bool) (tiles : List (List ℕ)) (x : Index) (i : Indexed on tiles x) (b k : ℕ) (p : k < length tiles) where
-  link-case : (q : Bool) → eqb (key_at x k % 4096) b ≡ q → (cond q (next_at x k) k ≤ k) × Gap on tiles b (cond q (next_at x k) k) k
+module _ (on : Bool) (tiles : List (List ℕ)) (keys heads next : List ℕ) (x : IndexedIn on tiles keys heads next) (b k : ℕ) (p : k < length tiles) where
+  link-case : (q : Bool) → eqb (get_or keys k 0 % 4096) b ≡ q → (cond q (get_or next k 0) k ≤ k) × Gap on tiles b (cond q (get_or next k 0) k) k
   link-case true e =
-      let same : bucket_of on (get_or tiles k []) ≡ b = ap (λ (n : ℕ). n % 4096) (sym (i.keyed k p)) ∙ eqb-true (key_at x k % 4096) b e in
-      (i.next_low k p, subst (λ (n : ℕ). Gap on tiles n (next_at x k) k) same (i.next_gap k p))
+      let same : bucket_of on (get_or tiles k []) ≡ b = ap (λ (n : ℕ). n % 4096) (sym (x.keyed k p)) ∙ eqb-true (get_or keys k 0 % 4096) b e in
+      (x.next_low k p, subst (λ (n : ℕ). Gap on tiles n (get_or next k 0) k) same (x.next_gap k p))
   link-case false e = (omega arith, λ j q r. absurd (omega arith))
 
-  pub link-gap : (link_of x b k ≤ k) × Gap on tiles b (link_of x b k) k
-  unfolding link_of
-  link-gap = link-case (eqb (key_at x k % 4096) b) refl
+  pub link-gap : (link_in keys next b k ≤ k) × Gap on tiles b (link_in keys next b k) k
+  unfolding link_in
+  link-gap = link-case (eqb (get_or keys k 0 % 4096) b) refl
 
 -- ---- one of some tiles matches
 
@@ -136,34 +138,34 @@ pub record Searching (on : Bool) (tiles : List (List ℕ)) (t : List ℕ) (l : �
   pub low : l ≤ length tiles
   pub is : look_up on 8 8 tiles t ≡ below on t tiles l r
 
-module _ (on : Bool) (tiles : List (List ℕ)) (x : Index) (t : List ℕ) (q : ℕ) (z : Searches on tiles x t q) where
+module _ (on : Bool) (tiles : List (List ℕ)) (keys heads next t : List ℕ) (q : ℕ) (z : SearchesIn on tiles keys heads next t q) where
   bucket-is : (b : ℕ) → b ≡ q % 4096 → b ≡ bucket_of on t
   bucket-is b e = e ∙ ap (λ (n : ℕ). n % 4096) z.its
 
-  pub search-start : (b : ℕ) {l : ℕ} → b ≡ q % 4096 → b < 4096 → l ≡ head_at x b → Searching on tiles t l Nothing
+  pub search-start : (b : ℕ) {l : ℕ} → b ≡ q % 4096 → b < 4096 → l ≡ get_or heads b 0 → Searching on tiles t l Nothing
   search-start b {l} e p g =
       let low : l ≤ length tiles = subst (λ (n : ℕ). n ≤ length tiles) (sym g) (z.index.head_low b p) in
       let free : Gap on tiles (bucket_of on t) l (length tiles) =
       subst (λ (n : ℕ). Gap on tiles (bucket_of on t) n (length tiles)) (sym g)
-      (subst (λ (n : ℕ). Gap on tiles n (head_at x b) (length tiles)) (bucket-is b e) (z.index.head_gap b p)) in
+      (subst (λ (n : ℕ). Gap on tiles n (get_or heads b 0) (length tiles)) (bucket-is b e) (z.index.head_gap b p)) in
       record {
         low = low;
         is = below_all on t tiles ∙ gap on t tiles l (length tiles) Nothing low (le_refl (length tiles)) free;
       }
 
   module _ (b : ℕ) {l k next-l : ℕ} {r next-r : Found} {m : Option Flip} (e : b ≡ q % 4096) (o : 0 < l) (up : l ≡ suc k) (h : Searching on tiles t l r)
-      (em : m ≡ match_flip on 8 8 (get_or tiles k []) t) (er : next-r ≡ found_or m k r) (el : next-l ≡ link_of x b k) where
+      (em : m ≡ match_flip on 8 8 (get_or tiles k []) t) (er : next-r ≡ found_or m k r) (el : next-l ≡ link_in keys next b k) where
     kt : k < length tiles
     kt = omega (arith, h.low)
 
     pub search-down : next-l ≤ k
-    search-down = subst (λ (n : ℕ). n ≤ k) (sym el) (link-gap on tiles x z.index b k kt).0
+    search-down = subst (λ (n : ℕ). n ≤ k) (sym el) (link-gap on tiles keys heads next z.index b k kt).0
 
     pub search-turn : Searching on tiles t next-l next-r
     search-turn =
         let free : Gap on tiles (bucket_of on t) next-l k =
         subst (λ (n : ℕ). Gap on tiles (bucket_of on t) n k) (sym el)
-        (subst (λ (n : ℕ). Gap on tiles n (link_of x b k) k) (bucket-is b e) (link-gap on tiles x z.index b k kt).1) in
+        (subst (λ (n : ℕ). Gap on tiles n (link_in keys next b k) k) (bucket-is b e) (link-gap on tiles keys heads next z.index b k kt).1) in
         record {
           low = omega (arith, search-down, kt);
           is =
@@ -175,3 +177,8 @@ module _ (on : Bool) (tiles : List (List ℕ)) (x : Index) (t : List ℕ) (q : �
 
   pub search-end : {l : ℕ} {r : Found} → l ≡ 0 → Searching on tiles t l r → r ≡ look_up on 8 8 tiles t
   search-end {r = r} e h = sym (h.is ∙ ap (λ (n : ℕ). below on t tiles n r) e ∙ below_none on t tiles r)
+
+-- the same of an index
+pub index-search-end : (on : Bool) (tiles : List (List ℕ)) (x : Index) (t : List ℕ) (q : ℕ) → Searches on tiles x t q
+    → {l : ℕ} {r : Found} → l ≡ 0 → Searching on tiles t l r → r ≡ look_up on 8 8 tiles t
+index-search-end on tiles x t q z = search-end on tiles x.keys x.heads x.next t q z

@@ -16,7 +16,7 @@ use Rattle.tileset.specs.Finding.{look_up, is_found}
 use Rattle.tileset.specs.declared.Found.{Found}
 use Rattle.tileset.specs.declared.Found.TheVariants.{At, Nothing}
 use Rattle.tileset.proofs.Matched.{look-some}
-use Rattle.index.specs.Keys.{key}
+use Rattle.index.specs.InnerKeys.{key}
 use Rattle.index.specs.Inner.{key_at, head_at, next_at, IsEmpty, bucket_of, Skip, Gap, Indexed, Searches, Enters}
 use Rattle.index.specs.declared.Index.{Index}
 use Rattle.index.proofs.Chains.{some-where}

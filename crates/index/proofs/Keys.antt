@@ -12,7 +12,7 @@ use Rattle.flip.specs.declared.Flip.{Flip}
 use Rattle.std.specs.Prelude.{Option, Some, None}
 use Rattle.flip.proofs.Group.{flipped-flipped}
 use Rattle.flip.proofs.Equivalence.{Allowed, not-both, matches-true}
-use Rattle.index.specs.Keys.{word, hash, mix, pair, key}
+use Rattle.index.specs.InnerKeys.{word, hash, mix, pair, key}
 
 -- ---- no allowed flip changes the key
 

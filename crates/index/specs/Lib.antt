@@ -1,2 +1,3 @@
-pub mod Keys
+pub mod InnerKeys
+pub mod InnerLinks
 pub mod Inner

@@ -6,7 +6,8 @@
 ghost use Rattle.std.specs.Prelude.{◌≡◌, ◌+◌, ◌*◌, ◌%◌, ◌<◌, ◌≤◌, IsTrue, ◌↔◌, length, get_or};
 ghost use Rattle.flip.specs.Flips.{flipped};
 ghost use Rattle.tileset.specs.Finding.{found_or};
-ghost use Rattle.index.specs.Keys.{word, hash, mix, pair, key};
+ghost use Rattle.index.specs.InnerKeys.{word, hash, mix, pair, key};
+ghost use Rattle.index.specs.InnerLinks.{link_in};
 
 use flip::Flip;
 use tileset::{Found, Logical};
@@ -20,7 +21,7 @@ fn pixel(tile: &[u8; 64], f: Flip, i: usize) -> u64
 }
 
 // Four pixels of the tile under a flip as one number.
-#[tactic(auto, unfolding(crate::specs::Keys::word))]
+#[tactic(auto, unfolding(crate::specs::InnerKeys::word))]
 fn four(tile: &[u8; 64], f: Flip, n: usize) -> u64
     requires { n < 16 }
     ensures { (result ≡ word (flipped f 8 8 tile.now) n) × (result < 4294967296) }
@@ -70,7 +71,7 @@ fn pair(tile: &[u8; 64], v: bool) -> u64
 }
 
 // The key of a tile.
-#[tactic(auto, unfolding(crate::specs::Keys::key))]
+#[tactic(auto, unfolding(crate::specs::InnerKeys::key))]
 pub fn key(tile: &[u8; 64], flips: bool) -> u32
     ensures { result ≡ key flips tile.now }
 {
@@ -99,13 +100,26 @@ pub fn over(m: Option<Flip>, k: usize, found: Found) -> Found
     Found::At(Logical(k as u32), f)
 }
 
+// The link that follows tile k in bucket b, of keys and links that stand in any two arrays.
+#[tactic(auto, unfolding(crate::specs::InnerLinks::link_in))]
+pub fn link(keys: &[u32; 4096], next: &[u16; 4096], b: usize, k: usize) -> usize
+    requires { k < 4096 }
+    ensures { result ≡ link_in keys.now next.now b k }
+{
+    if bucket(keys[k]) != b {
+        return k;
+    }
+    usize::from(next[k])
+}
+
 // An index: of each tile its key, and its link to the one before it in its bucket; and the head of each bucket, which is its last tile. Head and
-// links are places + 1, or 0 at a chain's end. It is 32 KiB of fixed memory, for nothing here asks for any: lent, and not to be copied.
+// links are places + 1, or 0 at a chain's end. It is 32 KiB of fixed memory, for nothing here asks for any: lent, and not to be copied. The
+// three are a caller's to give and to read: any arrays of these lengths are an index.
 #[derive(Drop)]
 pub struct Index {
-    keys: [u32; 4096],
-    heads: [u16; 4096],
-    next: [u16; 4096],
+    pub keys: [u32; 4096],
+    pub heads: [u16; 4096],
+    pub next: [u16; 4096],
     pub ghost whole: { (length keys ≡ 4096) × (length heads ≡ 4096) × (length next ≡ 4096) },
 }
 
@@ -140,15 +154,11 @@ impl Index {
     }
 
     // The link that follows tile k in bucket b.
-    #[tactic(auto, unfolding(crate::specs::Inner::link_of))]
     pub fn link(&self, b: usize, k: usize) -> usize
         requires { k < 4096 }
         ensures { result ≡ link_of self.now b k }
     {
-        if bucket(self.keys[k]) != b {
-            return k;
-        }
-        usize::from(self.next[k])
+        link(&self.keys, &self.next, b, k)
     }
 
     // One tile more, tile n, whose key is q: its key, its link and the head of its bucket. Found is what a look-up of it among those before it

@@ -1,11 +1,9 @@
 -- "Map entry bytes."
 -- Assumes nothing.
-use Rattle.std.specs.Prelude.{ℕ, ◌/◌, ◌^◌, ◌<◌, ◌≡◌, Bool, false, not, cond, ◌&&◌, List, [], ◌∷◌, ◌++◌, ltb, eqb, get_or, Option, Some, None, Result, Ok, Err}
+use Rattle.std.specs.Prelude.{ℕ, ◌/◌, ◌^◌, ◌<◌, ◌≡◌, Bool, false, not, cond, ◌&&◌, List, [], ◌∷◌, ◌++◌, ltb, eqb, get_or, Option, Some, None}
 use Rattle.words.specs.Answers.{◌when◌, first_applying, unless}
 use Rattle.words.specs.Bytes.{bit, bytes_of, word_of}
 use Rattle.words.specs.Fields.{Field, field, unused, join, split}
-use Rattle.words.specs.Refusals.{refusal_number}
-use Rattle.words.specs.declared.refusal.Refusal.{Refusal}
 use Rattle.mode.specs.Table.{row, gbc, md, pce-sprite}
 use Rattle.mapentry.specs.declared.Mapentry.{Mapentry}
 use Rattle.mapentry.specs.declared.Entry.{Entry}
@@ -128,11 +126,6 @@ blank = record { tile = 0; palette = 0; flip_h = false; flip_v = false; priority
 abbrev pub entry_answer : ℕ → Mapentry → Entry
 entry_answer n e =
     record { refusal = n; tile = e.tile; palette = e.palette; flip_h = e.flip_h; flip_v = e.flip_v; priority = e.priority }
-
--- The record that a host is given of a reading.
-abbrev pub entry_by : Result Mapentry Refusal → Entry
-entry_by (Ok e) = entry_answer 0 e
-entry_by (Err r) = entry_answer (refusal_number r) blank
 
 abbrev pub entered : ℕ → Mapentry → Entry
 entered n e = entry_answer n (unless n e blank)

@@ -1,2 +1,3 @@
 pub mod Entry
 pub mod Inner
+pub mod InnerResults

@@ -4,10 +4,11 @@
 ghost use Rattle.std.specs.Prelude.{◌≡◌, ◌+◌, ◌<◌, ◌≤◌, length, take, drop, Some, IfOk};
 ghost use Rattle.std.proofs.lemmas.List.Edits.{sets};
 ghost use Rattle.words.specs.Answers.{numbered, Wrote};
-ghost use Rattle.words.specs.Refusals.{refusal_number, answered, written_by, numbered_by};
+ghost use Rattle.words.specs.InnerResults.{refusal_number, answered, written_by, numbered_by};
 ghost use Rattle.mode.specs.Table.{row};
-ghost use Rattle.mapentry.specs.Entry.{misfit_of, misfit_says, entry_says, entry_word, entry_bytes, pack_says, entry_in, entry_of, read_says, entered, entry_by, IsEntry, layout, most_first, without_tile, index_size, index_says, index_bytes, attribute_of};
+ghost use Rattle.mapentry.specs.Entry.{misfit_of, misfit_says, entry_says, entry_word, entry_bytes, pack_says, entry_in, entry_of, read_says, entered, IsEntry, layout, most_first, without_tile, index_size, index_says, index_bytes, attribute_of};
 ghost use Rattle.mapentry.specs.Inner.{places_in, Near};
+ghost use Rattle.mapentry.specs.InnerResults.{entry_by};
 
 use mode::Mode;
 use words::refusal::Refusal;

@@ -1,6 +1,7 @@
 -- Inner shapes: what the code and its proofs compute on the way; no promise and no law reaches it.
 -- Assumes nothing.
-use Rattle.std.specs.Prelude.{ℕ, zero, suc, ◌≤◌, List, [], ◌∷◌, ◌++◌}
+use Rattle.std.specs.Prelude.{ℕ, zero, suc, ◌≤◌, List, [], ◌∷◌, ◌++◌, ◌≡◌, ◌<◌, Result, MatchResult}
+use Rattle.words.specs.declared.refusal.Refusal.{Refusal}
 use Rattle.mode.specs.declared.EntryBits.{EntryBits}
 use Rattle.mode.specs.Table.{Row}
 
@@ -30,3 +31,7 @@ numbers r = three r.depths ++ r.top ∷ r.entry ∷ r.tile ∷ r.palette ∷ r.f
 -- "Modes are numbered 0 to 15 in this order."
 abbrev pub consoles : List ℕ
 consoles = 0 ∷ 1 ∷ 2 ∷ 3 ∷ 4 ∷ 5 ∷ 6 ∷ 7 ∷ 8 ∷ 9 ∷ 10 ∷ 11 ∷ 12 ∷ 13 ∷ 14 ∷ 15 ∷ []
+
+-- "Mode number above 15" is refused; any other is a mode's.
+abbrev pub IsMode : ℕ → Result ℕ Refusal → Type 0
+IsMode n r = MatchResult r (λ m. (m ≡ n) × (n < 16)) (λ e. (e ≡ Refusal.Mode) × (15 < n))

@@ -1,7 +1,6 @@
 -- "Sixteen modes": the table of document 01.
 -- Assumes nothing.
-use Rattle.std.specs.Prelude.{ℕ, ◌≡◌, ◌<◌, Bool, false, ◌||◌, List, [], ◌∷◌, eqb, get_or, Result, MatchResult}
-use Rattle.words.specs.declared.refusal.Refusal.{Refusal}
+use Rattle.std.specs.Prelude.{ℕ, Bool, false, ◌||◌, List, [], ◌∷◌, eqb, get_or}
 
 -- One mode's row. "None" is 0; flips and priority are how many bits each has in an entry, 1 or 0.
 pub record Row : Type 0 where
@@ -66,7 +65,3 @@ pce-sprite = 10
 
 abbrev pub ngp : ℕ
 ngp = 11
-
--- "Mode number above 15" is refused; any other is a mode's.
-abbrev pub IsMode : ℕ → Result ℕ Refusal → Type 0
-IsMode n r = MatchResult r (λ m. (m ≡ n) × (n < 16)) (λ e. (e ≡ Refusal.Mode) × (15 < n))

@@ -3,8 +3,8 @@
 
 ghost use Rattle.std.specs.Prelude.{◌≡◌, ◌<◌, ◌≤◌, get_or};
 ghost use Rattle.words.specs.Bytes.{same};
-ghost use Rattle.mode.specs.Table.{row, has_depth, IsMode};
-ghost use Rattle.mode.specs.Inner.{numbers, entry_bits, Few, consoles};
+ghost use Rattle.mode.specs.Table.{row, has_depth};
+ghost use Rattle.mode.specs.Inner.{numbers, entry_bits, Few, consoles, IsMode};
 ghost use Rattle.mode.specs.Names.{name_of, mode_named};
 
 use std::marker::Model;

@@ -4,7 +4,7 @@
 ghost use Rattle.std.specs.Prelude.{◌≡◌, [], ◌∷◌, ◌+◌, ◌*◌, ◌≤◌, length};
 ghost use Rattle.std.proofs.lemmas.List.Edits.{sets};
 ghost use Rattle.words.specs.Answers.{Wrote, overwrite};
-ghost use Rattle.words.specs.Refusals.{answered, written_by};
+ghost use Rattle.words.specs.InnerResults.{answered, written_by};
 ghost use Rattle.mode7.specs.Block.{block_of, tile_half, map_half, make_says, split_says, Splits};
 ghost use Rattle.mode7.specs.Inner.{CanMake, CanSplit};
 

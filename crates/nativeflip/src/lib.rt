@@ -7,7 +7,7 @@ pub mod turns;
 ghost use Rattle.std.specs.Prelude.{◌≡◌, true, false, length, IfOk};
 ghost use Rattle.std.proofs.lemmas.List.Edits.{sets};
 ghost use Rattle.words.specs.Answers.{Wrote};
-ghost use Rattle.words.specs.Refusals.{answered, written_by};
+ghost use Rattle.words.specs.InnerResults.{answered, written_by};
 ghost use Rattle.tile.specs.Inner.{packed_in, unpacked_in};
 ghost use Rattle.tile.specs.Layout.{spread};
 ghost use Rattle.tile.specs.Tile.{packing_of};

@@ -10,7 +10,7 @@ use lib.ListN.{length, get_or, length-map, length-replicate, get_or-replicate, r
 use lib.Seq.{sets}
 use borrow.Author.Tests.{lt-ltb, le-ltb, eq-eqb, ne_eqb}
 use Rattle.words.specs.Answers.{◌when◌, first_applying}
-use Rattle.words.specs.Refusals.{refusal_number}
+use Rattle.words.specs.InnerResults.{refusal_number}
 use Rattle.words.specs.Bytes.{bit}
 use Rattle.words.specs.declared.refusal.Refusal.{Refusal}
 use Rattle.std.specs.Prelude.{Ok, Err}
@@ -28,9 +28,10 @@ use Rattle.tileset.proofs.Keeping.{kept-count}
 use Rattle.tileset.proofs.NumberLaws.{first-8}
 use Rattle.tileset.proofs.Stores.{tiles-long}
 use Rattle.picture.specs.Entries.{entry_as, entry_for}
-use Rattle.picture.specs.Converting.{places, picture_tiles, picture_room, pictured, picture_by}
+use Rattle.picture.specs.Converting.{places, picture_tiles, picture_room, pictured}
 use Rattle.picture.specs.Continuing.{unpacked_tiles, stored_after, discarded_after, found_after, tile_bytes_after, map_bytes_after, GoesOn}
 use Rattle.picture.specs.Inner.{IsPicture, CanGoOn, tile_at, code_of, entry_coded, Stored, tiles_of, first_tiles, HasStored, Indexes, Gathers, GatheredWith, put_tiles, put_entries, PutsPicture, PutAs, goes_on_says}
+use Rattle.picture.specs.InnerResults.{picture_by}
 use Rattle.picture.specs.declared.Settings.{Settings}
 use Rattle.picture.specs.declared.Counts.{Counts}
 use Rattle.picture.specs.declared.Picture.{Picture}

@@ -4,10 +4,11 @@ use mathlib.Core.Path.{◌≡◌}
 use Prim.Native.Nat.{ℕ}
 use Rattle.std.specs.Prelude.{Result, Ok, Err}
 use Rattle.std.specs.Result.{IsErr}
-use Rattle.words.specs.Refusals.{refusal_number, answered}
+use Rattle.words.specs.InnerResults.{refusal_number, answered}
 use Rattle.words.specs.declared.refusal.Refusal.{Refusal}
 use Rattle.words.proofs.Answers.{either_way}
-use Rattle.picture.specs.Converting.{pictured, picture_by}
+use Rattle.picture.specs.Converting.{pictured}
+use Rattle.picture.specs.InnerResults.{picture_by}
 use Rattle.picture.specs.declared.Counts.{Counts}
 
 pub picture-refused : (e : Refusal) → picture_by (Err e) ≡ pictured (refusal_number e) 0 0 0 0

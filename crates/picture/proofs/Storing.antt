@@ -14,7 +14,7 @@ use lib.Seq.{get_or-set_same, get_or-set_other}
 use borrow.Author.Tests.{lt-ltb, le-ltb, ltb-true, ltb-false}
 use Rattle.std.specs.Prelude.{Result, Ok, IfOk, OnOk, IsErrAnd, ⊤}
 use Rattle.words.specs.Answers.{◌when◌}
-use Rattle.words.specs.Refusals.{refusal_number}
+use Rattle.words.specs.InnerResults.{refusal_number}
 use Rattle.words.specs.declared.refusal.Refusal.{Refusal}
 use Rattle.words.proofs.Answers.{not-given}
 use Rattle.words.proofs.Refusing.{refusal-not-done, passed_on, answered-again}
@@ -26,7 +26,7 @@ use Rattle.tileset.specs.declared.Logical.{Logical}
 use Rattle.tileset.specs.declared.Found.{Found}
 use Rattle.tileset.specs.declared.Found.TheVariants.{At, Nothing}
 use Rattle.tileset.proofs.Keeping.{keep-new, after-found, after-new, found_below}
-use Rattle.index.specs.Keys.{key}
+use Rattle.index.specs.InnerKeys.{key}
 use Rattle.index.specs.Inner.{Indexed}
 use Rattle.picture.specs.Cells.{cut_tiles}
 use Rattle.picture.specs.Converting.{places, picture_tiles}
@@ -89,7 +89,7 @@ module _ {s : Source} {t : Store} {room i : ℕ} (k : Keeps s t room i) where
   As ts code after r = TakenAs s t.held ts room code after r
 
   -- there is no room
-  stored-none : (e : Refusal) (r : Result ℕ Refusal) (code : ℕ) (after : Store) → IsErrAnd r (λ x. x ≡ e) → refusal_number e ≡ 12 when ltb room (t.count + 1) → As longer code after r
+  pub stored-none : (e : Refusal) (r : Result ℕ Refusal) (code : ℕ) (after : Store) → IsErrAnd r (λ x. x ≡ e) → refusal_number e ≡ 12 when ltb room (t.count + 1) → As longer code after r
   stored-none e r code after is given =
       record {
         says = answered-again e r is ∙ given ∙ ap (λ (n : ℕ). 12 when ltb room n) (sym one_more);

@@ -22,7 +22,7 @@ use Rattle.tileset.specs.declared.Logical.{Logical}
 use Rattle.tileset.specs.declared.Found.{Found}
 use Rattle.tileset.specs.declared.Found.TheVariants.{At, Nothing}
 use Rattle.tileset.proofs.Stores.{tiles_more}
-use Rattle.index.specs.Keys.{key}
+use Rattle.index.specs.InnerKeys.{key}
 use Rattle.index.specs.Inner.{IsEmpty, Indexed, Enters}
 use Rattle.index.specs.declared.Index.{Index}
 use Rattle.index.proofs.Entering.{indexed-none, entered}

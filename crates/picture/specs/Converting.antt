@@ -1,10 +1,8 @@
 -- Conversion: "Columns x rows of tiles, row-major pixels, 64 x columns x rows bytes."
 -- Assumes nothing.
-use Rattle.std.specs.Prelude.{◌≡◌, Bool, false, not, ◌&&◌, List, [], ◌∷◌, ◌++◌, ℕ, ◌*◌, ◌/◌, ◌^◌, leb, ltb, eqb, length, get_or, Result, Ok, Err}
+use Rattle.std.specs.Prelude.{◌≡◌, Bool, false, not, ◌&&◌, List, [], ◌∷◌, ◌++◌, ℕ, ◌*◌, ◌/◌, ◌^◌, leb, ltb, eqb, length, get_or}
 use Rattle.words.specs.Answers.{◌when◌, first_applying, unless, overwrite}
-use Rattle.words.specs.Refusals.{refusal_number}
 use Rattle.words.specs.Loops.{each}
-use Rattle.words.specs.declared.refusal.Refusal.{Refusal}
 use Rattle.mode.specs.Table.{row, has_depth, pce-sprite}
 use Rattle.mapentry.specs.Entry.{misfit_of, misfit_says, entry_bytes}
 use Rattle.tile.specs.Tile.{packed}
@@ -15,7 +13,6 @@ use Rattle.tileset.specs.Keeping.{kept, need, discarded}
 use Rattle.picture.specs.Entries.{entry_as, entry_for}
 use Rattle.tileset.specs.declared.Found.{Found}
 use Rattle.picture.specs.declared.Settings.{Settings}
-use Rattle.picture.specs.declared.Counts.{Counts}
 use Rattle.picture.specs.declared.Picture.{Picture}
 
 abbrev pub places : Settings → ℕ
@@ -93,11 +90,6 @@ pictured n tiles discarded tile_length map_length =
       tile_bytes = unless n tile_length 0;
       map_bytes = unless n map_length 0;
     }
-
--- The counts of a conversion, or its refusal, as a host is told of them.
-abbrev pub picture_by : Result Counts Refusal → Picture
-picture_by (Ok k) = record { refusal = 0; tiles = k.tiles; discarded = k.discarded; tile_bytes = k.tile_bytes; map_bytes = k.map_bytes }
-picture_by (Err e) = record { refusal = refusal_number e; tiles = 0; discarded = 0; tile_bytes = 0; map_bytes = 0 }
 
 abbrev pub answer_of : ℕ → Settings → List ℕ → Picture
 answer_of n z pixels =

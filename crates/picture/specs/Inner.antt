@@ -3,7 +3,7 @@
 use Rattle.std.specs.Prelude.{◌≡◌, false, cond, ◌&&◌, List, [], ◌∷◌, ◌++◌, ℕ, zero, suc, ◌+◌, ◌-◌, ◌*◌, ◌/◌, ◌%◌, ◌^◌, ◌<◌, ◌≤◌, T, ltb, eqb, length, get_or, set, take, drop, Result, IfOk, OnOk, ⊤}
 use Rattle.std.proofs.lemmas.List.Edits.{sets}
 use Rattle.words.specs.Answers.{◌when◌, first_applying}
-use Rattle.words.specs.Refusals.{answered}
+use Rattle.words.specs.InnerResults.{answered}
 use Rattle.words.specs.Bytes.{bit}
 use Rattle.words.specs.declared.refusal.Refusal.{Refusal}
 use Rattle.words.specs.Loops.{each}
@@ -16,7 +16,7 @@ use Rattle.tileset.specs.Keeping.{keep}
 use Rattle.tileset.specs.Numbers.{first_cell}
 use Rattle.tileset.specs.declared.Found.{Found}
 use Rattle.tileset.specs.declared.Found.TheVariants.{At, Nothing}
-use Rattle.index.specs.Keys.{key}
+use Rattle.index.specs.InnerKeys.{key}
 use Rattle.index.specs.Inner.{key_at, IsEmpty, Indexed, Searches, Enters}
 use Rattle.picture.specs.Cells.{cut_tile}
 use Rattle.picture.specs.Entries.{entry_as, tile_named}

@@ -4,3 +4,4 @@ pub mod Converting
 pub mod Continuing
 pub mod Redrawing
 pub mod Inner
+pub mod InnerResults

@@ -23,7 +23,9 @@ const NOISE: u8 = 0xa5;
 const LIST_SPACE: usize = 262144;
 
 // Field n of a line; empty where there are fewer.
-fn field(line: &[u8], n: usize) -> &[u8] {
+fn field(line: &[u8], n: usize) -> &[u8]
+    ensures { length result.now ≤ length line.now }
+{
     line.split(|b| *b == b' ').nth(n).unwrap_or(b"")
 }
 
@@ -59,7 +61,9 @@ fn flag_field(line: &[u8], n: usize) -> bool {
 }
 
 // The bytes that a field has in hexadecimal, as many as out has space for; none where it is `-`.
-fn bytes_field<'a>(line: &[u8], n: usize, out: &'a mut [u8]) -> &'a [u8] {
+fn bytes_field<'a>(line: &[u8], n: usize, out: &'a mut [u8]) -> &'a [u8]
+    ensures { length result.now ≤ length out.old }
+{
     let s = field(line, n);
     let count = (s.len() / 2).min(out.len());
     for i in 0..count {

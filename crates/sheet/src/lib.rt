@@ -5,9 +5,9 @@ mod keys;
 mod text;
 
 ghost use Rattle.std.specs.Prelude.{◌≡◌, ◌++◌, ◌≤◌, ◌<◌, length, Ok};
-ghost use Rattle.words.specs.Refusals.{refusal_number};
+ghost use Rattle.words.specs.InnerResults.{refusal_number};
 ghost use Rattle.mode.specs.Names.{mode_named};
-ghost use Rattle.picture.specs.Converting.{picture_by};
+ghost use Rattle.picture.specs.InnerResults.{picture_by};
 ghost use Rattle.sheet.specs.Numbers.{digits_from, number_in, at_most};
 ghost use Rattle.sheet.specs.Sheet.{mode_told, text_says, line_says, line_length, settings_of, lines_in, sheet_in};
 ghost use Rattle.sheet.specs.Report.{report_text, refused_text};

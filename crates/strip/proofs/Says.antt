@@ -11,7 +11,7 @@ use lib.ListN.{length, get_or}
 use lib.Pow.{pow_mono}
 use borrow.Author.Tests.{lt-ltb, le-ltb, ltb-false, eq-eqb, ne_eqb, not-false}
 use Rattle.words.specs.Answers.{◌when◌, first_applying}
-use Rattle.words.specs.Refusals.{refusal_number}
+use Rattle.words.specs.InnerResults.{refusal_number}
 use Rattle.words.specs.declared.refusal.Refusal.{Refusal}
 use Rattle.words.proofs.Answers.{all-passed, not-given, first-given, last-given, when-refused}
 use Rattle.words.proofs.Items.{neither_left, neither_right}

@@ -9,21 +9,23 @@ use lib.ListN.{length}
 use Rattle.std.specs.Prelude.{Result, Ok, Err}
 use Rattle.std.specs.Result.{IsErrAnd}
 use Rattle.words.specs.Answers.{unless}
-use Rattle.words.specs.Refusals.{refusal_number}
+use Rattle.words.specs.InnerResults.{refusal_number}
 use Rattle.words.specs.declared.refusal.Refusal.{Refusal}
 use Rattle.words.proofs.Answers.{when-done, when-refused}
 use Rattle.words.proofs.Refusing.{refusal-not-done, passed_on}
-use Rattle.picture.specs.Converting.{pictured, picture_by}
+use Rattle.picture.specs.Converting.{pictured}
 use Rattle.picture.specs.Continuing.{unpacked_tiles, stored_after, discarded_after, GoesOn}
 use Rattle.picture.specs.Inner.{CanGoOn, goes_on_says}
+use Rattle.picture.specs.InnerResults.{picture_by}
 use Rattle.picture.proofs.Checks.{IsSize}
 use Rattle.picture.specs.declared.Settings.{Settings}
 use Rattle.picture.specs.declared.Picture.{Picture}
 use Rattle.picture.specs.declared.Counts.{Counts}
 use Rattle.picture.proofs.Promised.{refused-on}
 use Rattle.picture.proofs.Refusing.{picture-refused}
-use Rattle.strip.specs.Strips.{settings_of, rows_of, row_length, strip_of, written_by, run_at, take_says, run_after, Takes, stepped, step_by}
+use Rattle.strip.specs.Strips.{settings_of, rows_of, row_length, strip_of, written_by, run_at, take_says, run_after, Takes, stepped}
 use Rattle.strip.specs.Inner.{strip_says}
+use Rattle.strip.specs.InnerResults.{step_by}
 use Rattle.strip.specs.declared.Run.{Run}
 use Rattle.strip.specs.declared.Step.{Step}
 use Rattle.strip.proofs.Says.{take-strip, take-later, IsStrip, is-strip, settings-sized, rows-low, can-go-on}

@@ -1,3 +1,4 @@
 pub mod Strips
 pub mod Calls
 pub mod Inner
+pub mod InnerResults

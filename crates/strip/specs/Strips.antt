@@ -1,21 +1,18 @@
 -- "Take the picture in strips": a run, its strips and its end. A strip is converted as a picture of its own rows, after the tiles and entries that
 -- are written.
 -- Assumes nothing.
-use Rattle.std.specs.Prelude.{Result, Ok, Err, ◌≡◌, false, not, ◌&&◌, ◌||◌, List, [], ◌∷◌, ◌++◌, ℕ, ◌+◌, ◌-◌, ◌*◌, ◌/◌, ◌%◌, ◌^◌, ltb, eqb, length}
+use Rattle.std.specs.Prelude.{◌≡◌, false, not, ◌&&◌, ◌||◌, List, [], ◌∷◌, ◌++◌, ℕ, ◌+◌, ◌-◌, ◌*◌, ◌/◌, ◌%◌, ◌^◌, ltb, eqb, length}
 use Rattle.words.specs.Answers.{◌when◌, first_applying, unless}
-use Rattle.words.specs.Refusals.{refusal_number}
-use Rattle.words.specs.declared.refusal.Refusal.{Refusal}
 use Rattle.mode.specs.Table.{row}
 use Rattle.mapentry.specs.Entry.{misfit_of, misfit_says}
 use Rattle.tileset.specs.Sets.{room_under}
 use Rattle.picture.specs.Entries.{entry_as}
-use Rattle.picture.specs.Converting.{places, picture_room, size_checks, pictured, picture_by}
+use Rattle.picture.specs.Converting.{places, picture_room, size_checks, pictured}
 use Rattle.picture.specs.Continuing.{unpacked_tiles, stored_after, discarded_after, goes_on_checks, GoesOn}
 use Rattle.picture.specs.declared.Settings.{Settings}
 use Rattle.picture.specs.declared.Picture.{Picture}
 use Rattle.strip.specs.declared.Run.{Run}
 use Rattle.strip.specs.declared.RunAnswer.{RunAnswer}
-use Rattle.strip.specs.declared.Step.{Step}
 
 -- ---- the record
 
@@ -82,11 +79,6 @@ no_run =
 
 abbrev pub started : ℕ → Settings → RunAnswer
 started n z = record { refusal = n; run = unless n (run_at z 0 0 0) no_run }
-
--- The start that a result comes to.
-abbrev pub run_answer_by : Result Run Refusal → RunAnswer
-run_answer_by (Ok r) = record { refusal = 0; run = r }
-run_answer_by (Err e) = record { refusal = refusal_number e; run = no_run }
 
 -- ---- the checks, in their order
 
@@ -162,11 +154,6 @@ pub record Stepped : Type 0 where
 
 abbrev pub stepped : Picture → Run → Stepped
 stepped p r = record { picture = p; run = r }
-
--- What a result comes to: where the strip was refused, the record is the one that was given.
-abbrev pub step_by : Run → Result Step Refusal → Stepped
-step_by r (Ok s) = stepped (picture_by (Ok s.counts)) s.run
-step_by r (Err e) = stepped (picture_by (Err e)) r
 
 -- Of a strip: its answer, both lent buffers, and the record. "A refused strip changes neither record nor buffers; bytes of earlier strips stay."
 pub record Takes (refusal : ℕ) (r : Run) (pixels tiles map : List ℕ) (s : Stepped) (tiles_after map_after : List ℕ) : Type 0 where

@@ -2,10 +2,11 @@
 #![tactic(auto)]
 
 ghost use Rattle.std.specs.Prelude.{◌≡◌, length};
-ghost use Rattle.words.specs.Refusals.{answered};
-ghost use Rattle.picture.specs.Converting.{picture_by};
-ghost use Rattle.strip.specs.Strips.{settings_of, started, start_says, run_answer_by, take_says, Takes, step_by, end_says, ended};
+ghost use Rattle.words.specs.InnerResults.{answered};
+ghost use Rattle.picture.specs.InnerResults.{picture_by};
+ghost use Rattle.strip.specs.Strips.{settings_of, started, start_says, take_says, Takes, end_says, ended};
 ghost use Rattle.strip.specs.Inner.{settings_says, HasRows, length_says, strip_says, counts_more};
+ghost use Rattle.strip.specs.InnerResults.{run_answer_by, step_by};
 
 use mode::Mode;
 use picture::{Counts, Settings};

@@ -11,7 +11,7 @@ use lib.Seq.{sets, take_all, length-take-le, get_or-take}
 use borrow.Author.Tests.{lt-leb, ltb-false, leb-false, eqb-true, not-false, lt-ltb, le-ltb, eq-eqb, ne_eqb}
 use Rattle.words.specs.Answers.{◌when◌, first_applying, overwrite}
 use Rattle.words.specs.Loops.{some}
-use Rattle.words.specs.Refusals.{refusal_number}
+use Rattle.words.specs.InnerResults.{refusal_number}
 use Rattle.words.specs.declared.refusal.Refusal.{Refusal}
 use Rattle.words.proofs.Answers.{all-passed, not-given}
 use Rattle.words.proofs.Items.{none-at}

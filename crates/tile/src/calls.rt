@@ -2,7 +2,7 @@
 ghost use Rattle.std.specs.Prelude.{◌≡◌, ◌≤◌, length, IfOk};
 ghost use Rattle.words.specs.Answers.{Wrote};
 ghost use Rattle.words.specs.Loops.{some};
-ghost use Rattle.words.specs.Refusals.{answered, written_by};
+ghost use Rattle.words.specs.InnerResults.{answered, written_by};
 ghost use Rattle.tile.specs.Tile.{is_native, too_large, tile_says, pack_says, unpack_says, packed, unpacked};
 
 use crate::layouts::{byte_count, packing_of, pixel_count};

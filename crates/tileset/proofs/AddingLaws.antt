@@ -11,13 +11,14 @@ use borrow.Author.Tests.{le-leb, lt-leb}
 use Rattle.words.specs.Answers.{◌when◌, first_applying}
 use Rattle.words.proofs.Answers.{either_way, when-refused}
 use Rattle.words.proofs.Order.{checks-after, checks-first, checks-given}
-use Rattle.words.specs.Refusals.{refusal_number}
+use Rattle.words.specs.InnerResults.{refusal_number}
 use Rattle.words.specs.declared.refusal.Refusal.{Refusal}
-use Rattle.tileset.specs.Sets.{room_in, look_checks, look_says, set_answer_by}
+use Rattle.tileset.specs.Sets.{room_in, look_checks, look_says}
 use Rattle.tileset.specs.Finding.{found_in, is_found}
 use Rattle.tileset.specs.Adding.{discards, no_room, counter_full, end_checks, one_stored, one_discarded, at_end, added_by, store_by}
 use Rattle.tileset.specs.Adding.{add_says, added, store_with, Adds, AddsTile}
 use Rattle.tileset.specs.Inner.{AddsBy, Stores, discard_answer}
+use Rattle.tileset.specs.InnerResults.{set_answer_by}
 use Rattle.tileset.specs.declared.Set.{Set}
 use Rattle.tileset.specs.declared.SetAnswer.{SetAnswer}
 use Rattle.tileset.specs.declared.Found.{Found}

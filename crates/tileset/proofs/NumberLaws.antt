@@ -9,7 +9,7 @@ use lib.Dec.{ltb}
 use borrow.Author.Tests.{lt-ltb, le-ltb}
 use Rattle.std.specs.Prelude.{Ok, Err}
 use Rattle.words.specs.Answers.{◌when◌, numbered}
-use Rattle.words.specs.Refusals.{refusal_number, numbered_by}
+use Rattle.words.specs.InnerResults.{refusal_number, numbered_by}
 use Rattle.words.specs.declared.refusal.Refusal.{Refusal}
 use Rattle.words.proofs.Refusing.{refused_first, numbered-refused}
 use Rattle.words.proofs.Order.{checks-after}

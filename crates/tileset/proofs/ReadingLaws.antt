@@ -26,15 +26,16 @@ use Rattle.tile.specs.declared.Packing.{Packing}
 use Rattle.tile.proofs.Native.{Native, fitting}
 use Rattle.tile.proofs.RoundTrip.{length-spread, spread-lt}
 use Rattle.flip.proofs.Group.{place-lt, place-row, place-column}
-use Rattle.tileset.specs.Sets.{set_checks, set_says, set_room, held_says, no_set, room_under, set_answer_by}
+use Rattle.tileset.specs.Sets.{set_checks, set_says, set_room, held_says, no_set, room_under}
 use Rattle.tileset.specs.Numbers.{row_cells, starts_at, first_cell, Grid}
 use Rattle.tileset.specs.Reading.{last_cell, whole_from, whole_tiles, tile_size, unit_bytes, read_count, read_says, read_set, cell_in, pixel_in, row_in, tile_in, read_pixels, Reads}
 use Rattle.tileset.specs.Inner.{IsShape, cells_in, place_in, row_of}
+use Rattle.tileset.specs.InnerResults.{set_answer_by}
 use Rattle.tileset.specs.declared.Set.{Set}
 use Rattle.tileset.specs.declared.shape.Shape.{Shape}
 use Rattle.tileset.specs.declared.SetAnswer.{SetAnswer}
 use Rattle.tileset.proofs.Sizes.{IsSet, set-of, bits-some}
-use Rattle.words.specs.Refusals.{refusal_number}
+use Rattle.words.specs.InnerResults.{refusal_number}
 use Rattle.words.specs.declared.refusal.Refusal.{Refusal}
 use Rattle.words.proofs.Refusing.{refusal-not-done, refused_first, passed_on}
 use Rattle.tileset.proofs.Says.{held-0, refused-set, done-set}

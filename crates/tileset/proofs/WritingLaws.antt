@@ -32,7 +32,7 @@ use Rattle.tileset.specs.Writing.{padded_cells, cell_count, corner_of, block, ti
 use Rattle.tileset.specs.declared.Set.{Set}
 use Rattle.tileset.proofs.Sizes.{IsSet, grid-set}
 use Rattle.tileset.proofs.NumberLaws.{tile-8}
-use Rattle.words.specs.Refusals.{refusal_number}
+use Rattle.words.specs.InnerResults.{refusal_number}
 use Rattle.words.specs.declared.refusal.Refusal.{Refusal}
 use Rattle.words.proofs.Refusing.{refused_first}
 use Rattle.tileset.proofs.Says.{held-set, held-room, room_most, room_whole}

@@ -1,9 +1,7 @@
 -- "A look-up answers a place with its flip, or nothing."
 -- Assumes nothing.
-use Rattle.std.specs.Prelude.{Bool, true, false, List, [], ◌∷◌, map, ℕ, zero, suc, ◌*◌, ◌%◌, ◌^◌, take, drop, Option, Some, None, Result, Ok, Err}
+use Rattle.std.specs.Prelude.{Bool, true, false, List, [], ◌∷◌, map, ℕ, zero, suc, ◌*◌, ◌%◌, ◌^◌, take, drop, Option, Some, None}
 use Rattle.words.specs.Answers.{unless}
-use Rattle.words.specs.Refusals.{refusal_number}
-use Rattle.words.specs.declared.refusal.Refusal.{Refusal}
 use Rattle.flip.specs.Matching.{match_flip}
 use Rattle.tileset.specs.Sets.{area}
 use Rattle.tileset.specs.declared.Set.{Set}
@@ -58,8 +56,3 @@ place_of Nothing = no_place 0
 
 abbrev pub placed : ℕ → Found → Place
 placed n found = unless n (place_of found) (no_place n)
-
--- What a host is told of a result.
-abbrev pub place_by : Result Found Refusal → Place
-place_by (Ok found) = place_of found
-place_by (Err e) = no_place (refusal_number e)

@@ -1,6 +1,7 @@
 pub mod Sets
 pub mod Finding
 pub mod Inner
+pub mod InnerResults
 pub mod Matched
 pub mod Keeping
 pub mod Adding

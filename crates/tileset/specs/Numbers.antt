@@ -1,14 +1,9 @@
 -- "Native numbers count 8x8 cells, logical numbers count whole tiles; one is never taken where the other is due."
 -- Assumes nothing.
-use Rattle.std.specs.Prelude.{◌≡◌, not, cond, List, [], ◌∷◌, ◌++◌, ℕ, ◌+◌, ◌*◌, ◌/◌, ◌%◌, ◌<◌, ◌≤◌, ltb, eqb, Result, Ok, Err}
+use Rattle.std.specs.Prelude.{◌≡◌, not, cond, List, [], ◌∷◌, ◌++◌, ℕ, ◌+◌, ◌*◌, ◌/◌, ◌%◌, ◌<◌, ◌≤◌, ltb, eqb}
 use Rattle.words.specs.Answers.{◌when◌, first_applying}
-use Rattle.words.specs.Refusals.{refusal_number}
-use Rattle.words.specs.declared.refusal.Refusal.{Refusal}
-use Rattle.words.specs.declared.Number.{Number}
 use Rattle.mode.specs.Table.{snes, pce-sprite}
 use Rattle.tileset.specs.Sets.{is_size}
-use Rattle.tileset.specs.declared.Native.{Native}
-use Rattle.tileset.specs.declared.Logical.{Logical}
 
 -- "With R = 16 cells a row for snes and 1 for others, H and V cells per tile, T = R/H."
 abbrev pub row_cells : ℕ → ℕ
@@ -48,15 +43,6 @@ logical_checks m w h c = native_checks m w h (tile_of m w h c)
 
 abbrev pub logical_says : ℕ → ℕ → ℕ → ℕ → ℕ
 logical_says m w h c = native_says m w h (tile_of m w h c)
-
--- What a host is told of a result: the number that is one kind's or the other's.
-abbrev pub native_by : Result Native Refusal → Number
-native_by (Ok cell) = record { refusal = 0; value = cell.0 }
-native_by (Err e) = record { refusal = refusal_number e; value = 0 }
-
-abbrev pub logical_by : Result Logical Refusal → Number
-logical_by (Ok tile) = record { refusal = 0; value = tile.0 }
-logical_by (Err e) = record { refusal = refusal_number e; value = 0 }
 
 -- With r, h, v for R, H, V, where the sizes are allowed: whole tiles in a row of cells, and few cells.
 pub record Grid (r h v : ℕ) : Type 0 where

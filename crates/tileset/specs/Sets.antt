@@ -1,9 +1,7 @@
 -- "Sets and whole tiles": a set, its sizes and its room.
 -- Assumes nothing.
-use Rattle.std.specs.Prelude.{Bool, false, not, cond, ◌&&◌, List, [], ◌∷◌, ◌++◌, ℕ, ◌*◌, ◌/◌, min, ltb, eqb, Result, Ok, Err}
+use Rattle.std.specs.Prelude.{Bool, false, not, cond, ◌&&◌, List, [], ◌∷◌, ◌++◌, ℕ, ◌*◌, ◌/◌, min, ltb, eqb}
 use Rattle.words.specs.Answers.{◌when◌, first_applying, unless}
-use Rattle.words.specs.Refusals.{refusal_number}
-use Rattle.words.specs.declared.refusal.Refusal.{Refusal}
 use Rattle.mode.specs.Table.{one_of, has_depth, snes, pce-sprite}
 use Rattle.tileset.specs.declared.Set.{Set}
 use Rattle.tileset.specs.declared.SetAnswer.{SetAnswer}
@@ -61,11 +59,6 @@ no_set = new_set 0 0 0 0 false false 0
 -- The answer of a call: the set as it is done, or the one that a refusal gives.
 abbrev pub answered_set : ℕ → Set → Set → SetAnswer
 answered_set n done refused = record { refusal = n; set = unless n done refused }
-
--- What a host is told of a result, where a refused call hands a set back.
-abbrev pub set_answer_by : Set → Result Set Refusal → SetAnswer
-set_answer_by given (Ok z) = record { refusal = 0; set = z }
-set_answer_by given (Err e) = record { refusal = refusal_number e; set = given }
 
 -- How many tiles fit: the least of some bounds, one at least, and of the limit if it is not 0.
 unfoldable pub room_under : ℕ → ℕ → List ℕ → ℕ

@@ -1,8 +1,9 @@
 // Adding a tile: it is discarded where it matches, or goes at the end.
 ghost use Rattle.std.specs.Prelude.{◌≡◌, length};
-ghost use Rattle.tileset.specs.Sets.{room_in, set_answer_by};
+ghost use Rattle.tileset.specs.Sets.{room_in};
 ghost use Rattle.tileset.specs.Adding.{AddsTile};
 ghost use Rattle.tileset.specs.Inner.{Stores, discard_answer, Looks};
+ghost use Rattle.tileset.specs.InnerResults.{set_answer_by};
 
 use crate::finding::{found_in, put_cut};
 use crate::sets::{look_says, set_room};

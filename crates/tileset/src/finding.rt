@@ -2,8 +2,9 @@
 ghost use Rattle.std.specs.Prelude.{◌≡◌, ◌*◌, length};
 ghost use Rattle.std.proofs.lemmas.List.Edits.{sets};
 ghost use Rattle.tileset.specs.Sets.{look_says};
-ghost use Rattle.tileset.specs.Finding.{cut_to, tiles_in, look_up, found_in, placed, place_by};
+ghost use Rattle.tileset.specs.Finding.{cut_to, tiles_in, look_up, found_in, placed};
 ghost use Rattle.tileset.specs.Inner.{Cuts, Finds, Looks};
+ghost use Rattle.tileset.specs.InnerResults.{place_by};
 
 use crate::sets::look_says;
 use crate::{Found, Logical, Set};

@@ -1,6 +1,6 @@
 // A set with its store, which holds all its tiles.
 ghost use Rattle.std.specs.Prelude.{◌≡◌, length, IfOk};
-ghost use Rattle.words.specs.Refusals.{answered};
+ghost use Rattle.words.specs.InnerResults.{answered};
 ghost use Rattle.tileset.specs.Sets.{held_says};
 
 use crate::Set;

@@ -59,7 +59,7 @@ pub struct SetAnswer {
 }
 
 impl SetAnswer {
-    ghost use Rattle.tileset.specs.Sets.{set_answer_by};
+    ghost use Rattle.tileset.specs.InnerResults.{set_answer_by};
 
     // What a host is told of a call on a set: where it was refused, the set is the one that was given.
     pub fn new(given: Set, answer: Result<Set, Refusal>) -> SetAnswer
@@ -93,7 +93,7 @@ pub struct Place {
 }
 
 impl From<Result<Found, Refusal>> for Place {
-    ghost use Rattle.tileset.specs.Finding.{place_by};
+    ghost use Rattle.tileset.specs.InnerResults.{place_by};
 
     ghost from_gives = { λ r p. p ≡ place_by r };
 

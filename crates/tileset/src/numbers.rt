@@ -1,8 +1,9 @@
 // The two kinds of tile number, and the two formulas between them.
 ghost use Rattle.std.specs.Prelude.{◌≡◌, ◌/◌, ◌<◌, ◌≤◌};
 ghost use Rattle.words.specs.Answers.{numbered};
-ghost use Rattle.words.specs.Refusals.{answered};
-ghost use Rattle.tileset.specs.Numbers.{row_cells, starts_at, belongs_to, first_cell, tile_of, grid_says, native_says, logical_says, Grid, native_by, logical_by};
+ghost use Rattle.words.specs.InnerResults.{answered};
+ghost use Rattle.tileset.specs.Numbers.{row_cells, starts_at, belongs_to, first_cell, tile_of, grid_says, native_says, logical_says, Grid};
+ghost use Rattle.tileset.specs.InnerResults.{native_by, logical_by};
 
 use crate::sets::{is_height, is_width};
 use crate::{Logical, Native};

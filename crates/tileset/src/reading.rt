@@ -2,13 +2,14 @@
 ghost use Rattle.std.specs.Prelude.{◌≡◌, ◌<◌, IfOk, T};
 ghost use Rattle.std.proofs.lemmas.List.Edits.{sets};
 ghost use Rattle.words.specs.Answers.{overwrite};
-ghost use Rattle.words.specs.Refusals.{answered};
+ghost use Rattle.words.specs.InnerResults.{answered};
 ghost use Rattle.words.specs.Loops.{each};
 ghost use Rattle.mode.specs.Table.{pce-sprite};
 ghost use Rattle.tile.specs.Tile.{is_native};
-ghost use Rattle.tileset.specs.Sets.{no_set, set_says, set_answer_by};
+ghost use Rattle.tileset.specs.Sets.{no_set, set_says};
 ghost use Rattle.tileset.specs.Reading.{whole_tiles, unit_bytes, read_count, read_says, read_pixels, Reads};
 ghost use Rattle.tileset.specs.Inner.{ReadsAll, ReadsCells, ReadsRows, ReadsRow, cells_in, row_of};
+ghost use Rattle.tileset.specs.InnerResults.{set_answer_by};
 
 use crate::numbers::Cells;
 use crate::shape::Shape;

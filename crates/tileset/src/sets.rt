@@ -1,8 +1,9 @@
 // A set: its sizes, its room, and what makes its state a set's.
 ghost use Rattle.std.specs.Prelude.{◌≡◌, []};
-ghost use Rattle.words.specs.Refusals.{answered};
-ghost use Rattle.tileset.specs.Sets.{is_width, is_height, set_says, room_under, set_room, held_says, look_says, no_set, emptied, new_set, answered_set, set_answer_by};
+ghost use Rattle.words.specs.InnerResults.{answered};
+ghost use Rattle.tileset.specs.Sets.{is_width, is_height, set_says, room_under, set_room, held_says, look_says, no_set, emptied, new_set, answered_set};
 ghost use Rattle.tileset.specs.Inner.{is_side};
+ghost use Rattle.tileset.specs.InnerResults.{set_answer_by};
 
 use crate::Set;
 use crate::shape::Shape;

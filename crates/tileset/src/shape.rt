@@ -1,7 +1,7 @@
 // The shape of a set's tiles: a mode, with a depth and a size that it has. It is lent, for the borrow checker does not cover a copy of it that is passed
 // by value, since its mode has a model.
 ghost use Rattle.std.specs.Prelude.{◌≡◌, ◌*◌, ◌<◌, ◌≤◌, IfOk};
-ghost use Rattle.words.specs.Refusals.{answered};
+ghost use Rattle.words.specs.InnerResults.{answered};
 ghost use Rattle.mode.specs.Table.{pce-sprite};
 ghost use Rattle.tileset.specs.Sets.{set_says};
 

@@ -2,7 +2,7 @@
 ghost use Rattle.std.specs.Prelude.{◌≡◌, ◌≤◌, IfOk, T, length};
 ghost use Rattle.std.proofs.lemmas.List.Edits.{sets};
 ghost use Rattle.words.specs.Answers.{overwrite, Wrote};
-ghost use Rattle.words.specs.Refusals.{answered, written_by};
+ghost use Rattle.words.specs.InnerResults.{answered, written_by};
 ghost use Rattle.mode.specs.Table.{pce-sprite};
 ghost use Rattle.tile.specs.Tile.{is_native};
 ghost use Rattle.tileset.specs.Writing.{padded_cells, cells_of, corner_of, block, cell_bytes, set_bytes, write_size, write_says};

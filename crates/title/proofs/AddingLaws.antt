@@ -10,14 +10,15 @@ use lib.ListN.{length}
 use borrow.Author.Tests.{le-leb, lt-leb, leb-true, leb-false}
 use Rattle.std.specs.Prelude.{Result}
 use Rattle.std.specs.Result.{IsErrAnd}
-use Rattle.words.specs.Refusals.{refusal_number}
+use Rattle.words.specs.InnerResults.{refusal_number}
 use Rattle.words.specs.declared.refusal.Refusal.{Refusal}
 use Rattle.words.proofs.Answers.{not-given}
 use Rattle.words.proofs.Refusing.{refusal-not-done, passed_on}
 use Rattle.words.proofs.Order.{checks-first}
-use Rattle.tileset.specs.Sets.{room_in, set_answer_by}
+use Rattle.tileset.specs.Sets.{room_in}
 use Rattle.tileset.specs.Adding.{discards, no_room, end_checks}
 use Rattle.tileset.specs.Inner.{Stores, discard_answer}
+use Rattle.tileset.specs.InnerResults.{set_answer_by}
 use Rattle.tileset.specs.declared.Set.{Set}
 use Rattle.tileset.specs.declared.SetAnswer.{SetAnswer}
 use Rattle.tileset.specs.declared.Found.{Found}

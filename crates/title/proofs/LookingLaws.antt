@@ -26,13 +26,14 @@ use Rattle.tileset.proofs.Search.{or_else, matching, look-append, look-told}
 use Rattle.tileset.proofs.Stores.{tiles-long, tiles-at, cut-front}
 use Rattle.std.specs.Prelude.{Result}
 use Rattle.std.specs.Result.{IsErrAnd}
-use Rattle.words.specs.Refusals.{refusal_number}
+use Rattle.words.specs.InnerResults.{refusal_number}
 use Rattle.words.specs.declared.refusal.Refusal.{Refusal}
 use Rattle.words.proofs.Refusing.{refusal-not-done, passed_on}
 use Rattle.title.proofs.Says.{refused-held, done_held, titled-of}
 use Rattle.title.specs.declared.Hit.{Hit}
-use Rattle.title.specs.Titles.{title_says, hit_held, title_held_by, held_of, title_held, common_tiles, title_tiles, title_found, after_common, is_common, place_there, part_start, part_length, part_of}
+use Rattle.title.specs.Titles.{title_says, held_of, title_held, common_tiles, title_tiles, title_found, after_common, is_common, place_there, part_start, part_length, part_of}
 use Rattle.title.specs.Inner.{Titled, HasPart}
+use Rattle.title.specs.InnerResults.{hit_held, title_held_by}
 
 -- ---- places among the own tiles
 

@@ -1,3 +1,4 @@
 pub mod Titles
 pub mod Inner
+pub mod InnerResults
 pub mod History

@@ -1,7 +1,7 @@
 -- "Give each title its own set plus a common store that neither writes": the calls of a title, by the set's own definitions. The common store has
 -- count tiles of the size of the title's set.
 -- Assumes nothing.
-use Rattle.std.specs.Prelude.{Option, Some, None, Result, Ok, Err, Bool, true, false, not, cond, List, [], ◌∷◌, ◌++◌, ℕ, ◌+◌, ◌*◌, ◌/◌, ◌-◌, min, ltb, eqb, length, take, drop}
+use Rattle.std.specs.Prelude.{Bool, false, not, cond, List, [], ◌∷◌, ◌++◌, ℕ, ◌+◌, ◌*◌, ◌/◌, ◌-◌, min, ltb, eqb, length, take, drop}
 use Rattle.words.specs.Answers.{◌when◌, first_applying, unless}
 use Rattle.tileset.specs.Sets.{area, room_in, held_checks}
 use Rattle.tileset.specs.Finding.{cut_to, tiles_in, logical, look_up, is_found, no_place, place_of}
@@ -12,10 +12,7 @@ use Rattle.tileset.specs.declared.SetAnswer.{SetAnswer}
 use Rattle.tileset.specs.declared.Place.{Place}
 use Rattle.tileset.specs.declared.Found.{Found}
 use Rattle.tileset.specs.declared.Found.TheVariants.{At, Nothing}
-use Rattle.words.specs.Refusals.{refusal_number}
-use Rattle.words.specs.declared.refusal.Refusal.{Refusal}
 use Rattle.title.specs.declared.Held.{Held}
-use Rattle.title.specs.declared.Hit.{Hit}
 
 -- ---- looking up
 
@@ -76,16 +73,6 @@ held_at p common at len =
 
 abbrev pub no_held : ℕ → Held
 no_held n = held_at (no_place n) false 0 0
-
--- What a look-up comes to that found a tile, or none, or was refused.
-abbrev pub hit_held : Option Hit → Held
-hit_held (Some h) =
-    record { refusal = 0; found = true; place = h.place.0; flip_h = h.flip.h; flip_v = h.flip.v; common = h.common; at = h.at; len = h.len }
-hit_held None = no_held 0
-
-abbrev pub title_held_by : Result (Option Hit) Refusal → Held
-title_held_by (Ok h) = hit_held h
-title_held_by (Err e) = no_held (refusal_number e)
 
 abbrev pub held_of : Set → ℕ → Found → Held
 held_of z count found = held_at (place_of found) (is_common count found) (part_start z count found) (part_length z found)

@@ -1,7 +1,7 @@
 // Adding a tile to a title's own set: it is discarded where it matches a common or an own tile, or goes at the end.
 ghost use Rattle.std.specs.Prelude.{◌+◌, ◌≤◌, length};
-ghost use Rattle.tileset.specs.Sets.{set_answer_by};
 ghost use Rattle.tileset.specs.Inner.{Stores, Looks};
+ghost use Rattle.tileset.specs.InnerResults.{set_answer_by};
 ghost use Rattle.title.specs.Titles.{title_room, AddsToTitle};
 
 use crate::looking::Title;

@@ -5,7 +5,7 @@ pub mod adding;
 pub mod looking;
 
 ghost use Rattle.std.specs.Prelude.{◌≡◌};
-ghost use Rattle.title.specs.Titles.{title_held_by};
+ghost use Rattle.title.specs.InnerResults.{title_held_by};
 
 pub use adding::add;
 use flip::Flip;

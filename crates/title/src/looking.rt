@@ -1,13 +1,14 @@
 // Looking a tile up: among the common tiles, then among the title's own.
 ghost use Rattle.std.specs.Prelude.{◌≡◌, ◌+◌, ◌*◌, ◌≤◌, length};
 ghost use Rattle.std.proofs.lemmas.List.Edits.{sets};
-ghost use Rattle.words.specs.Refusals.{answered};
+ghost use Rattle.words.specs.InnerResults.{answered};
 ghost use Rattle.tileset.specs.Sets.{area};
 ghost use Rattle.tileset.specs.Finding.{cut_to, tiles_in};
 ghost use Rattle.tileset.specs.History.{set_tiles};
 ghost use Rattle.tileset.specs.Inner.{Finds, Looks};
-ghost use Rattle.title.specs.Titles.{title_tiles, title_found, after_common, title_says, place_there, part_of, hit_held, title_held_by, held_of, title_held};
+ghost use Rattle.title.specs.Titles.{title_tiles, title_found, after_common, title_says, place_there, part_of, held_of, title_held};
 ghost use Rattle.title.specs.Inner.{found_among, Titled, HasPart};
+ghost use Rattle.title.specs.InnerResults.{hit_held, title_held_by};
 
 use crate::Hit;
 use tileset::finding::{find, put_cut};

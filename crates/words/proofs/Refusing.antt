@@ -7,7 +7,7 @@ use native.Mathlib.Omega.{arith}
 use Rattle.std.specs.Prelude.{Result, Ok, Err}
 use Rattle.std.specs.Result.{IsErr, IsErrAnd}
 use Rattle.words.specs.Answers.{first_applying, written, numbered, Wrote}
-use Rattle.words.specs.Refusals.{refusal_number, answered, written_by, numbered_by}
+use Rattle.words.specs.InnerResults.{refusal_number, answered, written_by, numbered_by}
 use Rattle.words.specs.declared.refusal.Refusal.{Refusal}
 use Rattle.words.specs.declared.refusal.Refusal.TheVariants.{Mode, PceSprite, Depth, Size, Flips, Count, Length, Pixel, Component, Output, Room, Discarded, Settings, EntryTile, EntryPalette, EntryFlip, EntryPriority, Rows}
 use Rattle.words.proofs.Answers.{either_way, refuse, refused-number}

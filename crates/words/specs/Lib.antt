@@ -1,4 +1,4 @@
-pub mod Refusals
+pub mod InnerResults
 pub mod Answers
 pub mod Bytes
 pub mod Fields

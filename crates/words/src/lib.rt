@@ -6,7 +6,7 @@ pub mod refusal;
 ghost use Rattle.std.specs.Prelude.{◌≡◌, ◌+◌, ◌*◌, ◌/◌, ◌%◌, ◌^◌, ◌<◌, ◌≤◌, min, ltb, length, take, drop};
 ghost use Rattle.std.proofs.lemmas.List.Edits.{sets};
 ghost use Rattle.words.specs.Answers.{written, numbered};
-ghost use Rattle.words.specs.Refusals.{written_by, numbered_by};
+ghost use Rattle.words.specs.InnerResults.{written_by, numbered_by};
 ghost use Rattle.words.specs.Bytes.{bit, bytes_of, word_of, same};
 ghost use Rattle.words.specs.Inner.{word_at, eight, byte_in, bytes_in};
 

@@ -1,7 +1,7 @@
 // What the station is told: the papers' refusals, each with its number. A call answers the first of its checks that applies; they stand in the order
 // of their numbers, but for 15 to 18, which stand before 11, 19, after 6, and 14, before all. 10 is no longer given: 15 to 18 stand in its place.
 ghost use Rattle.std.specs.Prelude.{◌≡◌};
-ghost use Rattle.words.specs.Refusals.{refusal_number};
+ghost use Rattle.words.specs.InnerResults.{refusal_number};
 
 #[derive(Clone, Copy, Debug, PartialEq, Eq, Hash)]
 pub enum Refusal {

@@ -107,24 +107,20 @@ fn the_definitions_to_believe_are_listed() {
 #[test]
 fn what_is_inner_is_told_apart() {
     let trusted = trusted();
-    let is_inner = |module: &str| module == "Inner";
-    let mut due: BTreeMap<(String, String), BTreeSet<String>> = BTreeMap::new();
-    modules()
+    let is_inner = |module: &str| module.starts_with("Inner");
+    let stray: Vec<String> = modules()
         .iter()
         .filter(|((_, part, module), _)| part == "specs" && !is_inner(module))
         .flat_map(|(_, module)| &module.declarations)
         .filter(|declaration| declaration.definition && !trusted.contains(&declaration.place))
-        .for_each(|declaration| {
-            let place = declaration.place.clone();
-            due.entry((place.floor, format!("{}/{}", place.part, place.module))).or_default().insert(place.name);
-        });
-    let listed: BTreeMap<(String, String), BTreeSet<String>> = rows(&read(PROMISES), "## What no promise reaches")
-        .into_iter()
-        .map(|row| ((row[0].clone(), row[1].clone()), ticked(&row[2]).into_iter().collect()))
+        .map(|declaration| {
+            format!("{} {} {}", declaration.place.floor, declaration.place.module, declaration.place.name)
+        })
         .collect();
-    assert_eq!(
-        listed, due,
-        "{PROMISES} does not list the definitions outside Inner that no promise and no law reaches"
+    assert!(
+        stray.is_empty(),
+        "no promise and no law reaches these, so that they are inner shapes:\n{}",
+        stray.join("\n")
     );
     let inner: Vec<&Place> = trusted.iter().filter(|place| place.part == "specs" && is_inner(&place.module)).collect();
     assert!(inner.is_empty(), "a promise or a law reaches these, so that they are no inner shapes: {inner:?}");

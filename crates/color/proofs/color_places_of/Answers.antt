@@ -9,7 +9,7 @@ use Rattle.color.specs.Color.{coloring}
 use Rattle.color.proofs.Places.{some-bytes, few-bits, start-inside}
 use Rattle.color.proofs.color_places_of.Goals as goal
 use Rattle.color.proofs.color_places_of.Goals.{After-top}
-use Rattle.color.proofs.color_places_of.Goals.{in-SNES, in-SNES_MODE7, in-GB, in-GBC, in-GBA, in-GBA_AFFINE, in-MD, in-SMS, in-GG, in-PCE, in-PCE_SPRITE, in-NGP, in-NGPC, in-WS, in-WSC, in_default}
+use Rattle.color.proofs.color_places_of.Goals.{in-SNES, in-SNES_MODE7, in-GB, in-GBC, in-GBA, in-GBA_AFFINE, in-MD, in-SMS, in-GG, in-PCE, in-PCE_SPRITE, in-NGP, in-NGPC, in-WS, in-WSC, in-WSC_PACKED}
 
 -- the table's row of a mode
 abbrev Row : Type 0
@@ -26,7 +26,7 @@ arm k e is = e ∙ ap row_of (sym is)
 
 right : (c : After-top) → c.match-m.gray ≡ row_of c.number.result
 unfolding coloring
-right c = elim c.match-m.branch [ in-SNES w ↦ arm 0 w.gray-is (omega arith) | in-SNES_MODE7 w ↦ arm 1 w.gray-is (omega arith) | in-GB w ↦ arm 2 w.gray-is (omega arith) | in-GBC w ↦ arm 3 w.gray-is (omega arith) | in-GBA w ↦ arm 4 w.gray-is (omega arith) | in-GBA_AFFINE w ↦ arm 5 w.gray-is (omega arith) | in-MD w ↦ arm 6 w.gray-is (omega arith) | in-SMS w ↦ arm 7 w.gray-is (omega arith) | in-GG w ↦ arm 8 w.gray-is (omega arith) | in-PCE w ↦ arm 9 w.gray-is (omega arith) | in-PCE_SPRITE w ↦ arm 10 w.gray-is (omega arith) | in-NGP w ↦ arm 11 w.gray-is (omega arith) | in-NGPC w ↦ arm 12 w.gray-is (omega arith) | in-WS w ↦ arm 13 w.gray-is (omega arith) | in-WSC w ↦ arm 14 w.gray-is (omega arith) | in_default w ↦ arm 15 w.gray-is (omega arith) ]
+right c = elim c.match-m.branch [ in-SNES w ↦ arm 0 w.gray-is (omega arith) | in-SNES_MODE7 w ↦ arm 1 w.gray-is (omega arith) | in-GB w ↦ arm 2 w.gray-is (omega arith) | in-GBC w ↦ arm 3 w.gray-is (omega arith) | in-GBA w ↦ arm 4 w.gray-is (omega arith) | in-GBA_AFFINE w ↦ arm 5 w.gray-is (omega arith) | in-MD w ↦ arm 6 w.gray-is (omega arith) | in-SMS w ↦ arm 7 w.gray-is (omega arith) | in-GG w ↦ arm 8 w.gray-is (omega arith) | in-PCE w ↦ arm 9 w.gray-is (omega arith) | in-PCE_SPRITE w ↦ arm 10 w.gray-is (omega arith) | in-NGP w ↦ arm 11 w.gray-is (omega arith) | in-NGPC w ↦ arm 12 w.gray-is (omega arith) | in-WS w ↦ arm 13 w.gray-is (omega arith) | in-WSC w ↦ arm 14 w.gray-is (omega arith) | in-WSC_PACKED w ↦ arm 15 w.gray-is (omega arith) ]
 
 pub invariant_of-result : goal.invariant_of-result
 invariant_of-result c =

@@ -3,7 +3,7 @@ use mathlib.Core.Path.{refl}
 use Prim.Native.Nat.{◌≤◌}
 use native.Mathlib.Nat.{mul-le-mul}
 use native.Mathlib.Omega.{arith}
-use Rattle.index.specs.Keys.{mix}
+use Rattle.index.specs.InnerKeys.{mix}
 use Rattle.index.proofs.mixed.Goals as goal
 
 pub returns : goal.returns

@@ -5,7 +5,7 @@ use native.Mathlib.Omega.{arith}
 use lib.ListN.{length}
 use Rattle.std.specs.Prelude.{Err}
 use Rattle.words.specs.Answers.{written}
-use Rattle.words.specs.Refusals.{refusal_number}
+use Rattle.words.specs.InnerResults.{refusal_number}
 use Rattle.words.specs.declared.refusal.Refusal.TheVariants.{Output}
 use Rattle.words.proofs.Bytes.{length-bytes}
 use Rattle.words.proofs.Loops.{sets-front}

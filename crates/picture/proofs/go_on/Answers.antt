@@ -7,10 +7,11 @@ use lib.Dec.{ltb}
 use Rattle.std.specs.Prelude.{Ok}
 use Rattle.words.specs.Answers.{◌when◌}
 use Rattle.words.proofs.Refusing.{passed_on}
-use Rattle.picture.specs.Converting.{places, picture_room, picture_by}
+use Rattle.picture.specs.Converting.{places, picture_room}
 use Rattle.picture.specs.Continuing.{unpacked_tiles, discarded_after, stored_after, GoesOn}
 use Rattle.words.specs.declared.refusal.Refusal.TheVariants.{Discarded}
 use Rattle.picture.specs.Inner.{CanGoOn, goes_on_says}
+use Rattle.picture.specs.InnerResults.{picture_by}
 use Rattle.picture.proofs.Promised.{shallow, few-room, none-taken, gather-start, goes-full, goes-13, goes-0, stored-count, sum-after, puts-picture, put-done, refused-by}
 use Rattle.picture.proofs.go_on.Goals as goal
 use Rattle.picture.proofs.go_on.Goals.{After-picture_room-room, In_ok-gather, Start}

@@ -30,7 +30,7 @@ matched c =
 pub loop-l-init : goal.loop-l-init
 loop-l-init c =
     let b = c.bucket-b in
-    (b.ensures.0, search-start _ _ _ _ _ c.requires.search b.result b.ensures.0 b.ensures.1 c.head-l.ensures)
+    (b.ensures.0, search-start _ _ _ _ _ _ _ c.requires.search b.result b.ensures.0 b.ensures.1 c.head-l.ensures)
 
 pub match_at-m-requires : goal.match_at-m-requires
 match_at-m-requires c = looks-at c.requires (c.loop-l.l - 1) (there c)
@@ -40,7 +40,7 @@ loop-l-smaller c =
     let lp = c.loop-l in
     omega (
       arith,
-      search-down _ _ _ _ _ c.requires.search _ {k = lp.l - 1} lp.invariant.0 c.loop-l-test.true (omega arith) lp.invariant.1
+      search-down _ _ _ _ _ _ _ c.requires.search _ {k = lp.l - 1} lp.invariant.0 c.loop-l-test.true (omega arith) lp.invariant.1
           (matched (goal.at.loop-l-smaller c).After-match_at-m) c.over-found.ensures c.link-l.ensures,
     )
 
@@ -48,9 +48,9 @@ pub loop-l-preserved : goal.loop-l-preserved
 loop-l-preserved c =
     let lp = c.loop-l in (
       lp.invariant.0,
-      search-turn _ _ _ _ _ c.requires.search _ {k = lp.l - 1} lp.invariant.0 c.loop-l-test.true (omega arith) lp.invariant.1
+      search-turn _ _ _ _ _ _ _ c.requires.search _ {k = lp.l - 1} lp.invariant.0 c.loop-l-test.true (omega arith) lp.invariant.1
           (matched (goal.at.loop-l-preserved c).After-match_at-m) c.over-found.ensures c.link-l.ensures,
     )
 
 pub returns : goal.returns
-returns c = search-end _ _ _ _ _ c.requires.search (omega arith) c.loop-l.invariant.1
+returns c = search-end _ _ _ _ _ _ _ c.requires.search (omega arith) c.loop-l.invariant.1

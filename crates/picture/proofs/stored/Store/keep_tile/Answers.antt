@@ -2,7 +2,7 @@
 use mathlib.Core.Path.{◌≡◌, sym, ap, ◌∙◌}
 use Rattle.tileset.specs.Finding.{look_up}
 use Rattle.tileset.specs.declared.Found.TheVariants.{At, Nothing}
-use Rattle.index.specs.Keys.{key}
+use Rattle.index.specs.InnerKeys.{key}
 use Rattle.picture.specs.Inner.{tile_at, tiles_of}
 use Rattle.picture.proofs.Tiles.{finds-of}
 use Rattle.picture.proofs.Storing.{place-few, new-refused, new-stored, keep-found, again-refused, again-stored}

@@ -1,4 +1,5 @@
--- The refusals' numbers, and what an `Ok` and an `Err` answer to a host.
+-- The refusals' numbers, and what an `Ok` and an `Err` answer to a host: the contracts of functions inside are over it, and no export's contract and no law
+-- reaches it.
 -- Assumes nothing.
 use Rattle.std.specs.Prelude.{ℕ, Result, Ok, Err}
 use Rattle.words.specs.declared.Written.{Written}
